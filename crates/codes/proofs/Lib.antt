@@ -1,0 +1,5 @@
+pub mod BitLaws
+pub mod Integers
+pub mod Letters
+pub mod Choice
+pub mod Faults
