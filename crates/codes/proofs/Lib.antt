@@ -1,4 +1,5 @@
 pub mod BitLaws
+pub mod Cuts
 pub mod Integers
 pub mod Letters
 pub mod Choice

@@ -1,0 +1,160 @@
+// The codes by their kinds and numbers: choosing one, packing and unpacking by it.
+ghost use mathlib.Core.Path.{_≡_};
+ghost use Rattle.codes.specs.Table.{first-code, unpacked-code};
+ghost use Rattle.codes.specs.Numbers.{kind-number, code-number};
+ghost use Rattle.packing.specs.declared.choice.UnpackFault.the-variants.{Code};
+ghost use Rattle.packing.specs.Packing.{Packs, Packs-first, Comes-back, None-shorter, Shortest, Measured, Tells, Unpacks};
+use super::Code;
+use super::alphabet::Alphabet;
+use super::alphabet::AlphabetCode;
+use super::integer::Integer;
+use super::integer::IntegerCode;
+use super::measure_with;
+use super::octets::Octets;
+use super::octets::OctetsCode;
+use super::pack_with;
+use super::unpack_with;
+use codes::Compaction;
+use codes::Fault;
+use codes::Kind;
+
+// Why an object is not packed.
+#[derive(Clone, Copy)]
+pub enum PackFault {
+    // 20: it has no byte, or over 2,048
+    Size,
+    // the code is not for such an object
+    NotPermitted,
+    // the output is shorter than the packed object, which has so many bytes
+    TooShort(usize),
+}
+
+// Why packed bytes are not unpacked.
+#[derive(Clone, Copy)]
+pub enum UnpackFault {
+    // 13 to 15
+    Code(Fault),
+    // 26: the output is shorter than the object, which has so many bytes
+    Short(usize),
+}
+
+pub impl From<Fault> for UnpackFault as UnpackFaultFromFault {
+    ghost converts = { λ f r. r ≡ Code f };
+
+    fn from(fault: Fault) -> UnpackFault {
+        UnpackFault::Code(fault)
+    }
+}
+
+// The code that an object is packed by, and how many bytes it then has.
+#[derive(Clone, Copy)]
+pub struct Packed {
+    pub code: Compaction,
+    pub length: usize,
+}
+
+// The first permitted code of a compact object.
+fn choose_compact(object: &[u8]) -> Compaction
+    ensures { λ r. ⌜ code-number r ≡ first-code 1 (now (object .entry)) ⌝ }
+{
+    if Integer.suits(object) {
+        return Compaction::Integer;
+    }
+    if Alphabet::numeric().suits(object) {
+        return Compaction::Numeric;
+    }
+    if Alphabet::five_bit().suits(object) {
+        return Compaction::FiveBit;
+    }
+    if Alphabet::six_bit().suits(object) {
+        return Compaction::SixBit;
+    }
+    if Alphabet::seven_bit().suits(object) {
+        return Compaction::SevenBit;
+    }
+    Compaction::OctetString
+}
+
+// The first permitted code of a kind and object. No permitted code of the kind packs shorter.
+pub fn choose(kind: Kind, object: &[u8]) -> Compaction
+    ensures value { λ r. ⌜ code-number r ≡ first-code (kind-number kind) (now (object .entry)) ⌝ }
+    ensures least { λ r. ⌜ Shortest (code-number r) (kind-number kind) (now (object .entry)) ⌝ }
+{
+    match kind {
+        Kind::Application => Compaction::ApplicationDefined,
+        Kind::Compact => choose_compact(object),
+        Kind::Utf8 => Compaction::Utf8String,
+    }
+}
+
+fn pack_by(code: Compaction, object: &[u8], out: &mut [u8]) -> Result<usize, PackFault>
+    ensures { λ r. ⌜ Packs (code-number code) (now (object .entry)) (now (out .entry)) (now (out .exit)) r ⌝ }
+{
+    match code {
+        Compaction::ApplicationDefined => pack_with(&Octets::application_defined(), object, out),
+        Compaction::Integer => pack_with(&Integer, object, out),
+        Compaction::Numeric => pack_with(&Alphabet::numeric(), object, out),
+        Compaction::FiveBit => pack_with(&Alphabet::five_bit(), object, out),
+        Compaction::SixBit => pack_with(&Alphabet::six_bit(), object, out),
+        Compaction::SevenBit => pack_with(&Alphabet::seven_bit(), object, out),
+        Compaction::OctetString => pack_with(&Octets::octet_string(), object, out),
+        Compaction::Utf8String => pack_with(&Octets::utf8_string(), object, out),
+    }
+}
+
+// The object packed by a code at the front of `out`, and how many bytes that takes. It unpacks to the object.
+pub fn pack_as(code: Compaction, object: &[u8], out: &mut [u8]) -> Result<usize, PackFault>
+    ensures value { λ r. ⌜ Packs (code-number code) (now (object .entry)) (now (out .entry)) (now (out .exit)) r ⌝ }
+    ensures back { λ r. ⌜ Comes-back (code-number code) (now (object .entry)) (now (out .exit)) r ⌝ }
+{
+    pack_by(code, object, out)
+}
+
+// The object packed by the first permitted code of its kind at the front of `out`. No bytes that say it are fewer.
+pub fn pack(kind: Kind, object: &[u8], out: &mut [u8]) -> Result<Packed, PackFault>
+    ensures value { λ r. ⌜ Packs-first (kind-number kind) (now (object .entry)) (now (out .entry)) (now (out .exit)) r ⌝ }
+    ensures least { λ r. ⌜ None-shorter (kind-number kind) (now (object .entry)) r ⌝ }
+{
+    let code = choose(kind, object);
+    let length = pack_as(code, object, out)?;
+    Ok(Packed { code, length })
+}
+
+fn measure_by(code: Compaction, bytes: &[u8]) -> Result<usize, Fault>
+    ensures { λ r. ⌜ Measured (unpacked-code (code-number code) (now (bytes .entry))) r ⌝ }
+{
+    match code {
+        Compaction::ApplicationDefined => measure_with(&Octets::application_defined(), bytes),
+        Compaction::Integer => measure_with(&Integer, bytes),
+        Compaction::Numeric => measure_with(&Alphabet::numeric(), bytes),
+        Compaction::FiveBit => measure_with(&Alphabet::five_bit(), bytes),
+        Compaction::SixBit => measure_with(&Alphabet::six_bit(), bytes),
+        Compaction::SevenBit => measure_with(&Alphabet::seven_bit(), bytes),
+        Compaction::OctetString => measure_with(&Octets::octet_string(), bytes),
+        Compaction::Utf8String => measure_with(&Octets::utf8_string(), bytes),
+    }
+}
+
+// The length of the object that packed bytes say, or what is wrong with them.
+pub fn measure(code: Compaction, bytes: &[u8]) -> Result<usize, Fault>
+    ensures value { λ r. ⌜ Measured (unpacked-code (code-number code) (now (bytes .entry))) r ⌝ }
+    ensures told { λ r. ⌜ Tells (code-number code) (now (bytes .entry)) r ⌝ }
+{
+    measure_by(code, bytes)
+}
+
+// The object that packed bytes say at the front of `out`, and its length; `out` is as before where there is none.
+pub fn unpack(code: Compaction, bytes: &[u8], out: &mut [u8]) -> Result<usize, UnpackFault>
+    ensures { λ r. ⌜ Unpacks (unpacked-code (code-number code) (now (bytes .entry))) (now (out .entry)) (now (out .exit)) r ⌝ }
+{
+    match code {
+        Compaction::ApplicationDefined => unpack_with(&Octets::application_defined(), bytes, out),
+        Compaction::Integer => unpack_with(&Integer, bytes, out),
+        Compaction::Numeric => unpack_with(&Alphabet::numeric(), bytes, out),
+        Compaction::FiveBit => unpack_with(&Alphabet::five_bit(), bytes, out),
+        Compaction::SixBit => unpack_with(&Alphabet::six_bit(), bytes, out),
+        Compaction::SevenBit => unpack_with(&Alphabet::seven_bit(), bytes, out),
+        Compaction::OctetString => unpack_with(&Octets::octet_string(), bytes, out),
+        Compaction::Utf8String => unpack_with(&Octets::utf8_string(), bytes, out),
+    }
+}
