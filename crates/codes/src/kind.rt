@@ -4,7 +4,7 @@ ghost use Prim.Native.Nat.{_<_};
 ghost use Rattle.std.specs.Options.{Cases};
 ghost use Rattle.codes.specs.Numbers.{kind-number, code-number};
 
-// What the bytes of an object are: an application's own, text that is packed as short as it goes, UTF-8.
+/// What the bytes of an object are: an application's own, text that is packed as short as it goes, UTF-8.
 #[derive(Clone, Copy)]
 pub enum Kind {
     Application,
@@ -13,7 +13,7 @@ pub enum Kind {
 }
 
 impl Kind {
-    // The kind of a number, which is at most 2.
+    /// The kind of a number, which is at most 2.
     pub fn from_number(number: u8) -> Option<Kind>
         ensures { λ r. ⌜ Cases r (2 < number) (λ k. kind-number k ≡ number) ⌝ }
     {
@@ -36,7 +36,7 @@ impl Kind {
     }
 }
 
-// The code of a set, as its precursor has it.
+/// The code of a set, as its precursor has it.
 #[derive(Clone, Copy)]
 pub enum Compaction {
     ApplicationDefined,
@@ -50,7 +50,7 @@ pub enum Compaction {
 }
 
 impl Compaction {
-    // The code of a number, which is at most 7.
+    /// The code of a number, which is at most 7.
     pub fn from_number(number: u8) -> Option<Compaction>
         ensures { λ r. ⌜ Cases r (7 < number) (λ c. code-number c ≡ number) ⌝ }
     {

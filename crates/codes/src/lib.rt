@@ -11,7 +11,7 @@ pub use fault::Fault;
 pub use kind::Compaction;
 pub use kind::Kind;
 
-// How many worked examples the definitions are held to; and each group of an alphabet stands for one character.
+/// How many worked examples the definitions are held to; and each group of an alphabet stands for one character.
 pub fn examples_hold() -> usize
     ensures value { λ r. ⌜ r ≡ length examples ⌝ }
     ensures right { λ _. ⌜ Examples-hold ⌝ }

@@ -3,6 +3,7 @@ ghost use mathlib.Core.Path.{_≡_};
 ghost use mathlib.Core.Bool.{true};
 ghost use Rattle.codes.specs.Table.{within, low-bits, letter};
 ghost use Rattle.packing.specs.Coded.{is-alphabet, lettered};
+ghost use Rattle.packing.specs.Widths.{width-code};
 use super::Code;
 use super::all_within;
 use super::group_of;
@@ -21,60 +22,57 @@ pub struct Alphabet {
     ghost ok: { is-alphabet code width padding least first last blank ≡ true },
 }
 
+/// The bits of a group.
+#[derive(Clone, Copy)]
+pub enum Width {
+    Four,
+    Five,
+    Six,
+    Seven,
+}
+
 impl Alphabet {
-    pub fn numeric() -> Self
-        ensures { λ r. ⌜ r .code ≡ 2 ⌝ }
+    /// The alphabet of a width, as the table of codes has it.
+    pub fn of(width: Width) -> Self
+        ensures { λ r. ⌜ r .code ≡ width-code width ⌝ }
     {
-        Alphabet {
-            code: 2,
-            width: 4,
-            padding: 15,
-            least: 2,
-            first: 0x30,
-            last: 0x39,
-            blank: false,
-        }
-    }
-
-    pub fn five_bit() -> Self
-        ensures { λ r. ⌜ r .code ≡ 3 ⌝ }
-    {
-        Alphabet {
-            code: 3,
-            width: 5,
-            padding: 0,
-            least: 3,
-            first: 0x41,
-            last: 0x5f,
-            blank: false,
-        }
-    }
-
-    pub fn six_bit() -> Self
-        ensures { λ r. ⌜ r .code ≡ 4 ⌝ }
-    {
-        Alphabet {
-            code: 4,
-            width: 6,
-            padding: 32,
-            least: 4,
-            first: 0x20,
-            last: 0x5f,
-            blank: true,
-        }
-    }
-
-    pub fn seven_bit() -> Self
-        ensures { λ r. ⌜ r .code ≡ 5 ⌝ }
-    {
-        Alphabet {
-            code: 5,
-            width: 7,
-            padding: 127,
-            least: 8,
-            first: 0x00,
-            last: 0x7e,
-            blank: false,
+        match width {
+            Width::Four => Alphabet {
+                code: 2,
+                width: 4,
+                padding: 15,
+                least: 2,
+                first: 0x30,
+                last: 0x39,
+                blank: false,
+            },
+            Width::Five => Alphabet {
+                code: 3,
+                width: 5,
+                padding: 0,
+                least: 3,
+                first: 0x41,
+                last: 0x5f,
+                blank: false,
+            },
+            Width::Six => Alphabet {
+                code: 4,
+                width: 6,
+                padding: 32,
+                least: 4,
+                first: 0x20,
+                last: 0x5f,
+                blank: true,
+            },
+            Width::Seven => Alphabet {
+                code: 5,
+                width: 7,
+                padding: 127,
+                least: 8,
+                first: 0x00,
+                last: 0x7e,
+                blank: false,
+            },
         }
     }
 

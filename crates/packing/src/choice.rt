@@ -7,6 +7,7 @@ ghost use Rattle.packing.specs.Packing.{Packs, Packs-first, Comes-back, None-s
 use super::Code;
 use super::alphabet::Alphabet;
 use super::alphabet::AlphabetCode;
+use super::alphabet::Width;
 use super::integer::Integer;
 use super::integer::IntegerCode;
 use super::measure_with;
@@ -18,23 +19,23 @@ use codes::Compaction;
 use codes::Fault;
 use codes::Kind;
 
-// Why an object is not packed.
+/// Why an object is not packed.
 #[derive(Clone, Copy)]
 pub enum PackFault {
-    // 20: it has no byte, or over 2,048
+    /// 20: it has no byte, or over 2,048
     Size,
-    // the code is not for such an object
+    /// the code is not for such an object
     NotPermitted,
-    // the output is shorter than the packed object, which has so many bytes
+    /// the output is shorter than the packed object, which has so many bytes
     TooShort(usize),
 }
 
-// Why packed bytes are not unpacked.
+/// Why packed bytes are not unpacked.
 #[derive(Clone, Copy)]
 pub enum UnpackFault {
-    // 13 to 15
+    /// 13 to 15
     Code(Fault),
-    // 26: the output is shorter than the object, which has so many bytes
+    /// 26: the output is shorter than the object, which has so many bytes
     Short(usize),
 }
 
@@ -46,7 +47,7 @@ pub impl From<Fault> for UnpackFault as UnpackFaultFromFault {
     }
 }
 
-// The code that an object is packed by, and how many bytes it then has.
+/// The code that an object is packed by, and how many bytes it then has.
 #[derive(Clone, Copy)]
 pub struct Packed {
     pub code: Compaction,
@@ -60,22 +61,22 @@ fn choose_compact(object: &[u8]) -> Compaction
     if Integer.suits(object) {
         return Compaction::Integer;
     }
-    if Alphabet::numeric().suits(object) {
+    if Alphabet::of(Width::Four).suits(object) {
         return Compaction::Numeric;
     }
-    if Alphabet::five_bit().suits(object) {
+    if Alphabet::of(Width::Five).suits(object) {
         return Compaction::FiveBit;
     }
-    if Alphabet::six_bit().suits(object) {
+    if Alphabet::of(Width::Six).suits(object) {
         return Compaction::SixBit;
     }
-    if Alphabet::seven_bit().suits(object) {
+    if Alphabet::of(Width::Seven).suits(object) {
         return Compaction::SevenBit;
     }
     Compaction::OctetString
 }
 
-// The first permitted code of a kind and object. No permitted code of the kind packs shorter.
+/// The first permitted code of a kind and object. No permitted code of the kind packs shorter.
 pub fn choose(kind: Kind, object: &[u8]) -> Compaction
     ensures value { λ r. ⌜ code-number r ≡ first-code (kind-number kind) (now (object .entry)) ⌝ }
     ensures least { λ r. ⌜ Shortest (code-number r) (kind-number kind) (now (object .entry)) ⌝ }
@@ -91,18 +92,18 @@ fn pack_by(code: Compaction, object: &[u8], out: &mut [u8]) -> Result<usize, Pac
     ensures { λ r. ⌜ Packs (code-number code) (now (object .entry)) (now (out .entry)) (now (out .exit)) r ⌝ }
 {
     match code {
-        Compaction::ApplicationDefined => pack_with(&Octets::application_defined(), object, out),
+        Compaction::ApplicationDefined => pack_with(&Octets::of(Kind::Application), object, out),
         Compaction::Integer => pack_with(&Integer, object, out),
-        Compaction::Numeric => pack_with(&Alphabet::numeric(), object, out),
-        Compaction::FiveBit => pack_with(&Alphabet::five_bit(), object, out),
-        Compaction::SixBit => pack_with(&Alphabet::six_bit(), object, out),
-        Compaction::SevenBit => pack_with(&Alphabet::seven_bit(), object, out),
-        Compaction::OctetString => pack_with(&Octets::octet_string(), object, out),
-        Compaction::Utf8String => pack_with(&Octets::utf8_string(), object, out),
+        Compaction::Numeric => pack_with(&Alphabet::of(Width::Four), object, out),
+        Compaction::FiveBit => pack_with(&Alphabet::of(Width::Five), object, out),
+        Compaction::SixBit => pack_with(&Alphabet::of(Width::Six), object, out),
+        Compaction::SevenBit => pack_with(&Alphabet::of(Width::Seven), object, out),
+        Compaction::OctetString => pack_with(&Octets::of(Kind::Compact), object, out),
+        Compaction::Utf8String => pack_with(&Octets::of(Kind::Utf8), object, out),
     }
 }
 
-// The object packed by a code at the front of `out`, and how many bytes that takes. It unpacks to the object.
+/// The object packed by a code at the front of `out`, and how many bytes that takes. It unpacks to the object.
 pub fn pack_as(code: Compaction, object: &[u8], out: &mut [u8]) -> Result<usize, PackFault>
     ensures value { λ r. ⌜ Packs (code-number code) (now (object .entry)) (now (out .entry)) (now (out .exit)) r ⌝ }
     ensures back { λ r. ⌜ Comes-back (code-number code) (now (object .entry)) (now (out .exit)) r ⌝ }
@@ -110,7 +111,7 @@ pub fn pack_as(code: Compaction, object: &[u8], out: &mut [u8]) -> Result<usize,
     pack_by(code, object, out)
 }
 
-// The object packed by the first permitted code of its kind at the front of `out`. No bytes that say it are fewer.
+/// The object packed by the first permitted code of its kind at the front of `out`. No bytes that say it are fewer.
 pub fn pack(kind: Kind, object: &[u8], out: &mut [u8]) -> Result<Packed, PackFault>
     ensures value { λ r. ⌜ Packs-first (kind-number kind) (now (object .entry)) (now (out .entry)) (now (out .exit)) r ⌝ }
     ensures least { λ r. ⌜ None-shorter (kind-number kind) (now (object .entry)) r ⌝ }
@@ -124,18 +125,18 @@ fn measure_by(code: Compaction, bytes: &[u8]) -> Result<usize, Fault>
     ensures { λ r. ⌜ Measured (unpacked-code (code-number code) (now (bytes .entry))) r ⌝ }
 {
     match code {
-        Compaction::ApplicationDefined => measure_with(&Octets::application_defined(), bytes),
+        Compaction::ApplicationDefined => measure_with(&Octets::of(Kind::Application), bytes),
         Compaction::Integer => measure_with(&Integer, bytes),
-        Compaction::Numeric => measure_with(&Alphabet::numeric(), bytes),
-        Compaction::FiveBit => measure_with(&Alphabet::five_bit(), bytes),
-        Compaction::SixBit => measure_with(&Alphabet::six_bit(), bytes),
-        Compaction::SevenBit => measure_with(&Alphabet::seven_bit(), bytes),
-        Compaction::OctetString => measure_with(&Octets::octet_string(), bytes),
-        Compaction::Utf8String => measure_with(&Octets::utf8_string(), bytes),
+        Compaction::Numeric => measure_with(&Alphabet::of(Width::Four), bytes),
+        Compaction::FiveBit => measure_with(&Alphabet::of(Width::Five), bytes),
+        Compaction::SixBit => measure_with(&Alphabet::of(Width::Six), bytes),
+        Compaction::SevenBit => measure_with(&Alphabet::of(Width::Seven), bytes),
+        Compaction::OctetString => measure_with(&Octets::of(Kind::Compact), bytes),
+        Compaction::Utf8String => measure_with(&Octets::of(Kind::Utf8), bytes),
     }
 }
 
-// The length of the object that packed bytes say, or what is wrong with them.
+/// The length of the object that packed bytes say, or what is wrong with them.
 pub fn measure(code: Compaction, bytes: &[u8]) -> Result<usize, Fault>
     ensures value { λ r. ⌜ Measured (unpacked-code (code-number code) (now (bytes .entry))) r ⌝ }
     ensures told { λ r. ⌜ Tells (code-number code) (now (bytes .entry)) r ⌝ }
@@ -143,18 +144,18 @@ pub fn measure(code: Compaction, bytes: &[u8]) -> Result<usize, Fault>
     measure_by(code, bytes)
 }
 
-// The object that packed bytes say at the front of `out`, and its length; `out` is as before where there is none.
+/// The object that packed bytes say at the front of `out`, and its length; `out` is as before where there is none.
 pub fn unpack(code: Compaction, bytes: &[u8], out: &mut [u8]) -> Result<usize, UnpackFault>
     ensures { λ r. ⌜ Unpacks (unpacked-code (code-number code) (now (bytes .entry))) (now (out .entry)) (now (out .exit)) r ⌝ }
 {
     match code {
-        Compaction::ApplicationDefined => unpack_with(&Octets::application_defined(), bytes, out),
+        Compaction::ApplicationDefined => unpack_with(&Octets::of(Kind::Application), bytes, out),
         Compaction::Integer => unpack_with(&Integer, bytes, out),
-        Compaction::Numeric => unpack_with(&Alphabet::numeric(), bytes, out),
-        Compaction::FiveBit => unpack_with(&Alphabet::five_bit(), bytes, out),
-        Compaction::SixBit => unpack_with(&Alphabet::six_bit(), bytes, out),
-        Compaction::SevenBit => unpack_with(&Alphabet::seven_bit(), bytes, out),
-        Compaction::OctetString => unpack_with(&Octets::octet_string(), bytes, out),
-        Compaction::Utf8String => unpack_with(&Octets::utf8_string(), bytes, out),
+        Compaction::Numeric => unpack_with(&Alphabet::of(Width::Four), bytes, out),
+        Compaction::FiveBit => unpack_with(&Alphabet::of(Width::Five), bytes, out),
+        Compaction::SixBit => unpack_with(&Alphabet::of(Width::Six), bytes, out),
+        Compaction::SevenBit => unpack_with(&Alphabet::of(Width::Seven), bytes, out),
+        Compaction::OctetString => unpack_with(&Octets::of(Kind::Compact), bytes, out),
+        Compaction::Utf8String => unpack_with(&Octets::of(Kind::Utf8), bytes, out),
     }
 }

@@ -3,8 +3,10 @@ ghost use mathlib.Core.Path.{_≡_};
 ghost use mathlib.Core.Bool.{true};
 ghost use Rattle.std.specs.declared.result.Result.the-variants.{Ok};
 ghost use Rattle.packing.specs.Coded.{is-plain};
+ghost use Rattle.packing.specs.Widths.{octets-code};
 use super::Code;
 use codes::Fault;
+use codes::Kind;
 
 #[derive(Clone, Copy)]
 pub struct Octets {
@@ -13,22 +15,15 @@ pub struct Octets {
 }
 
 impl Octets {
-    pub fn application_defined() -> Self
-        ensures { λ r. ⌜ r .code ≡ 0 ⌝ }
+    /// The code of a kind that keeps the bytes.
+    pub fn of(kind: Kind) -> Self
+        ensures { λ r. ⌜ r .code ≡ octets-code kind ⌝ }
     {
-        Octets { code: 0 }
-    }
-
-    pub fn octet_string() -> Self
-        ensures { λ r. ⌜ r .code ≡ 6 ⌝ }
-    {
-        Octets { code: 6 }
-    }
-
-    pub fn utf8_string() -> Self
-        ensures { λ r. ⌜ r .code ≡ 7 ⌝ }
-    {
-        Octets { code: 7 }
+        match kind {
+            Kind::Application => Octets { code: 0 },
+            Kind::Compact => Octets { code: 6 },
+            Kind::Utf8 => Octets { code: 7 },
+        }
     }
 }
 
