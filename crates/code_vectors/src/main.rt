@@ -1,12 +1,15 @@
 // Compares packing and unpacking, case by case, with an unrelated encoder's output on standard input.
 //
 // A line is `pack KIND OBJECT CODE PACKED`, `unpack CODE PACKED object OBJECT` or
-// `unpack CODE PACKED fault NUMBER GROUP`; bytes are hexadecimal, `-` is none.
+// `unpack CODE PACKED fault NUMBER GROUP`; bytes are hexadecimal, `-` is none. Refusals, with an output of ROOM bytes,
+// are `refuse-pack CODE OBJECT ROOM size`, `.. code` or `.. short N`, and `refuse-unpack CODE PACKED ROOM short N`.
 use codes::Compaction;
 use codes::Kind;
+use packing::PackFault;
 use packing::UnpackFault;
 use packing::measure;
 use packing::pack;
+use packing::pack_as;
 use packing::unpack;
 use std::alloc::Global;
 use std::error::AnyError;
@@ -119,10 +122,49 @@ fn fails(
     }
 }
 
+// Whether the last words of a case say that an output is too short for `n` bytes.
+fn says_short(words: &[&str], n: usize) -> Result<bool, AnyError> {
+    if words.len() != 6 {
+        return Ok(false);
+    }
+    Ok(words[4] == "short" && words[5].parse::<usize>()? == n)
+}
+
+fn refuses_to_pack(heap: Global, words: &[&str]) -> Result<bool, AnyError> {
+    if words.len() < 5 {
+        return Err("a refusal has five words or six".into());
+    }
+    let code = Compaction::from_number(words[1].parse::<u8>()?).ok_or("no such code")?;
+    let object = bytes(heap, words[2])?;
+    let mut out = vec![in heap; FILL; words[3].parse::<usize>()?]?;
+    let right = match pack_as(code, object.as_slice(), out.as_mut_slice()) {
+        Ok(_) => false,
+        Err(PackFault::Size) => words[4] == "size",
+        Err(PackFault::NotPermitted) => words[4] == "code",
+        Err(PackFault::TooShort(n)) => says_short(words, n)?,
+    };
+    Ok(right && holds(out.as_slice(), &[]))
+}
+
+fn refuses_to_unpack(heap: Global, words: &[&str]) -> Result<bool, AnyError> {
+    if words.len() < 5 {
+        return Err("a refusal has five words or six".into());
+    }
+    let code = Compaction::from_number(words[1].parse::<u8>()?).ok_or("no such code")?;
+    let packed = bytes(heap, words[2])?;
+    let mut out = vec![in heap; FILL; words[3].parse::<usize>()?]?;
+    let right = match unpack(code, packed.as_slice(), out.as_mut_slice()) {
+        Err(UnpackFault::Short(n)) => says_short(words, n)?,
+        Ok(_) | Err(UnpackFault::Code(_)) => false,
+    };
+    Ok(right && holds(out.as_slice(), &[]))
+}
+
 #[derive(Drop)]
 struct Counts {
     packed: u64,
     unpacked: u64,
+    refused: u64,
 }
 
 fn case(heap: Global, line: &str, counts: &mut Counts) -> Result<bool, AnyError> {
@@ -136,7 +178,15 @@ fn case(heap: Global, line: &str, counts: &mut Counts) -> Result<bool, AnyError>
             counts.unpacked = counts.unpacked.saturating_add(1);
             unpacks(heap, words.as_slice())
         }
-        _ => Err("a case is pack or unpack".into()),
+        Some("refuse-pack") => {
+            counts.refused = counts.refused.saturating_add(1);
+            refuses_to_pack(heap, words.as_slice())
+        }
+        Some("refuse-unpack") => {
+            counts.refused = counts.refused.saturating_add(1);
+            refuses_to_unpack(heap, words.as_slice())
+        }
+        _ => Err("no such case".into()),
     }
 }
 
@@ -144,6 +194,7 @@ fn compare(rt: &LibcRuntime) -> Result<(), AnyError> {
     let mut counts = Counts {
         packed: 0,
         unpacked: 0,
+        refused: 0,
     };
     for line in BufReader::new(rt.stdin()).lines(rt.alloc()) {
         let line = line?;
@@ -152,8 +203,11 @@ fn compare(rt: &LibcRuntime) -> Result<(), AnyError> {
             return Err("a case differs".into());
         }
     }
-    let (packed, unpacked) = (counts.packed, counts.unpacked);
-    println!(rt, "packed {packed} unpacked {unpacked} differ 0")?;
+    let (packed, unpacked, refused) = (counts.packed, counts.unpacked, counts.refused);
+    println!(
+        rt,
+        "packed {packed} unpacked {unpacked} refused {refused} differ 0"
+    )?;
     println!(
         rt,
         "worked examples held by the definitions {}",
