@@ -9,13 +9,15 @@ use Rattle.std.specs.declared.result.Result.{Result}
 use Rattle.std.specs.declared.result.Result.the-variants.{Ok, Err}
 use Rattle.std.specs.shelf.Digits.{Under}
 use Rattle.std.proofs.shelf.Lists.{take-at}
+use Rattle.codes.specs.declared.kind.Kind.{Kind}
+use Rattle.codes.specs.declared.kind.Kind.the-variants.{Application, Compact, Utf8}
 use Rattle.codes.specs.declared.kind.Compaction.{Compaction}
 use Rattle.codes.specs.declared.kind.Compaction.the-variants.{ApplicationDefined, Integer, Numeric, FiveBit, SixBit, SevenBit, OctetString, Utf8String}
 use Rattle.codes.specs.Table.{code, permitted, packed-code, unpacked-code, first-code}
-use Rattle.codes.specs.Numbers.{code-number}
+use Rattle.codes.specs.Numbers.{kind-number, code-number}
 use Rattle.codes.specs.declared.fault.Fault.{Fault}
 use Rattle.codes.proofs.Faults.{faults-told}
-use Rattle.codes.proofs.Choice.{comes-back, first-shortest, none-shorter}
+use Rattle.codes.proofs.Choice.{comes-back, first-permitted, first-shortest, none-shorter}
 use Rattle.packing.specs.declared.choice.PackFault.{PackFault}
 use Rattle.packing.specs.Packing.{Packs, Comes-back, Shortest, Measured, Tells}
 
@@ -88,3 +90,11 @@ below-eight Utf8String = omega arith
 pub told-by : (k : ℕ) (bs : List ℕ) (r : Result ℕ Fault) → Measured (unpacked-code k bs) r → Tells k bs r
 told-by k bs (Ok n) h = tt
 told-by k bs (Err f) h = faults-told k bs f h
+
+kind-below : (kind : Kind) → kind-number kind ≤ 2
+kind-below Application = omega arith
+kind-below Compact = omega arith
+kind-below Utf8 = omega arith
+
+pub permitted-by : (kind : Kind) (x : List ℕ) (k : ℕ) → k ≡ first-code (kind-number kind) x → permitted k x ≡ true
+permitted-by kind x k e = ap (λ k. permitted k x) e ∙ first-permitted (kind-number kind) x (kind-below kind) .1

@@ -42,6 +42,13 @@ abbrev pub Packs-first : ℕ → List ℕ → List ℕ → List ℕ → Result P
 Packs-first kind x old new (Ok p) = (code-number (p .code) ≡ first-code kind x) × Packs (first-code kind x) x old new (Ok (p .length))
 Packs-first kind x old new (Err f) = Packs (first-code kind x) x old new (Err f)
 
+-- the same with nothing written
+abbrev pub Plans : ℕ → List ℕ → Result Packed PackFault → Type 0
+Plans kind x (Ok p) = Sized x × (code-number (p .code) ≡ first-code kind x) × (p .length ≡ length (packed-code (first-code kind x) x))
+Plans kind x (Err Size) = Sized x → ⊥
+Plans kind x (Err NotPermitted) = ⊥
+Plans kind x (Err (TooShort n)) = ⊥
+
 -- what is packed at the front of the output unpacks to the object
 abbrev pub Comes-back : ℕ → List ℕ → List ℕ → Result ℕ PackFault → Type 0
 Comes-back k x new (Ok n) = unpacked-code k (take n new) ≡ Ok x

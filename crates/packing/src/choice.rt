@@ -1,15 +1,18 @@
 // The codes by their kinds and numbers: choosing one, packing and unpacking by it.
 ghost use mathlib.Core.Path.{_≡_};
-ghost use Rattle.codes.specs.Table.{first-code, unpacked-code};
+ghost use mathlib.Core.Bool.{true};
+ghost use lib.ListN.{length};
+ghost use Rattle.codes.specs.Table.{permitted, packed-code, first-code, unpacked-code};
 ghost use Rattle.codes.specs.Numbers.{kind-number, code-number};
 ghost use Rattle.packing.specs.declared.choice.UnpackFault.the-variants.{Code};
-ghost use Rattle.packing.specs.Packing.{Packs, Packs-first, Comes-back, None-shorter, Shortest, Measured, Tells, Unpacks};
+ghost use Rattle.packing.specs.Packing.{Packs, Packs-first, Plans, Comes-back, None-shorter, Shortest, Measured, Tells, Unpacks};
 use super::Code;
 use super::alphabet::Alphabet;
 use super::alphabet::AlphabetCode;
 use super::alphabet::Width;
 use super::integer::Integer;
 use super::integer::IntegerCode;
+use super::length_with;
 use super::measure_with;
 use super::octets::Octets;
 use super::octets::OctetsCode;
@@ -86,6 +89,34 @@ pub fn choose(kind: Kind, object: &[u8]) -> Compaction
         Kind::Compact => choose_compact(object),
         Kind::Utf8 => Compaction::Utf8String,
     }
+}
+
+fn length_by(code: Compaction, object: &[u8]) -> usize
+    requires { ⌜ permitted (code-number code) (now object) ≡ true ⌝ }
+    ensures { λ r. ⌜ r ≡ length (packed-code (code-number code) (now (object .entry))) ⌝ }
+{
+    match code {
+        Compaction::ApplicationDefined => length_with(&Octets::of(Kind::Application), object),
+        Compaction::Integer => length_with(&Integer, object),
+        Compaction::Numeric => length_with(&Alphabet::of(Width::Four), object),
+        Compaction::FiveBit => length_with(&Alphabet::of(Width::Five), object),
+        Compaction::SixBit => length_with(&Alphabet::of(Width::Six), object),
+        Compaction::SevenBit => length_with(&Alphabet::of(Width::Seven), object),
+        Compaction::OctetString => length_with(&Octets::of(Kind::Compact), object),
+        Compaction::Utf8String => length_with(&Octets::of(Kind::Utf8), object),
+    }
+}
+
+/// The code that an object of a kind is packed by, and how many bytes it then has; nothing is written.
+pub fn plan(kind: Kind, object: &[u8]) -> Result<Packed, PackFault>
+    ensures { λ r. ⌜ Plans (kind-number kind) (now (object .entry)) r ⌝ }
+{
+    if object.is_empty() || object.len() > 2048 {
+        return Err(PackFault::Size);
+    }
+    let code = choose(kind, object);
+    let length = length_by(code, object);
+    Ok(Packed { code, length })
 }
 
 fn pack_by(code: Compaction, object: &[u8], out: &mut [u8]) -> Result<usize, PackFault>

@@ -27,6 +27,7 @@ pub use choice::choose;
 pub use choice::measure;
 pub use choice::pack;
 pub use choice::pack_as;
+pub use choice::plan;
 pub use choice::unpack;
 
 // A code, as groups of 4 to 8 bits: an object gives groups, and groups give an object or a fault.
@@ -186,6 +187,14 @@ fn packed_byte<C: Code>(code: &C, object: &[u8], count: usize, j: usize) -> u8
     let b = group_or_pad(code, object, count, k + 1);
     let c = group_or_pad(code, object, count, k + 2);
     cut(width, 8, from.bit, a, b, c)
+}
+
+// The bytes that an object takes when it is packed.
+fn length_with<C: Code>(code: &C, object: &[u8]) -> usize
+    requires { ⌜ permitted (listed (now code)) (now object) ≡ true ⌝ }
+    ensures { λ r. ⌜ r ≡ length (packed-code (listed (now (code .entry))) (now (object .entry))) ⌝ }
+{
+    bytes_for(code.width(), code.count(object))
 }
 
 fn pack_with<C: Code>(code: &C, object: &[u8], out: &mut [u8]) -> Result<usize, PackFault>
