@@ -1,0 +1,3 @@
+pub mod Cuts
+pub mod Limits
+pub mod Meant
