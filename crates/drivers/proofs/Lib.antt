@@ -1,2 +1,4 @@
 pub mod Fronts
 pub mod Granted
+pub mod Turning
+pub mod Windowing

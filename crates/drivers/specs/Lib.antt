@@ -2,3 +2,4 @@ pub mod Faults
 pub mod Questions
 pub mod Changes
 pub mod Wholes
+pub mod Layers
