@@ -1,7 +1,8 @@
 -- What each layer makes of the tag below it.
+use mathlib.Core.Path.{_≡_}
 use mathlib.Core.List.{List, map, reverse}
 use mathlib.Core.Bool.{cond}
-use Prim.Native.Nat.{ℕ, zero, suc, min, _+_, _-_, _*_, _/_, _%_}
+use Prim.Native.Nat.{ℕ, zero, suc, min, _+_, _-_, _*_, _/_, _%_, _≤_}
 use lib.Dec.{ltb}
 use lib.ListN.{take, drop}
 use Rattle.std.specs.declared.result.Result.{Result}
@@ -9,6 +10,16 @@ use Rattle.std.specs.declared.result.Result.the-variants.{Ok, Err}
 use Rattle.tags.specs.Tags.{Tag}
 use Rattle.drivers.specs.declared.faults.DriverFault.{DriverFault}
 use Rattle.drivers.specs.declared.faults.DriverFault.the-variants.{NoBlock, WrongBuffer, Locked}
+
+-- two tags of one shape, and so of the same limits
+pub record Alike (t u : Tag) : Type 0 where
+  pub count : t .count ≡ u .count
+  pub size : t .size ≡ u .size
+
+-- a tag of no more blocks than another, of the same size
+pub record Narrower (t u : Tag) : Type 0 where
+  pub count : t .count ≤ u .count
+  pub size : t .size ≡ u .size
 
 -- the tag with each block turned
 abbrev pub turn-tag : (List ℕ → List ℕ) → Tag → Tag

@@ -3,7 +3,8 @@ ghost use mathlib.Core.Path.{_≡_};
 ghost use mathlib.Core.List.{List};
 ghost use Prim.Native.Nat.{ℕ, _≤_};
 ghost use lib.ListN.{length, take};
-ghost use Rattle.drivers.specs.Layers.{turn-tag};
+ghost use Rattle.drivers.specs.Layers.{turn-tag, by-bytes, by-bits, Alike};
+ghost use Rattle.orders.specs.Shows.{shown};
 ghost use Rattle.drivers.proofs.Turning.{turn-shaped};
 use drivers::Driver;
 use drivers::DriverFault;
@@ -11,6 +12,10 @@ use tags::Shape;
 
 pub mod turns;
 
+pub use turns::Bits;
+pub use turns::BitsTurn;
+pub use turns::Bytes;
+pub use turns::BytesTurn;
 pub use turns::Turn;
 
 /// A driver that shows each block of the one below it turned.
@@ -20,8 +25,46 @@ pub struct Turned<T, D> {
     lower: D,
 }
 
+/// The byte-order layer: the bytes of each block from last to first.
+pub type ByteOrder<D> = Turned<Bytes, D>;
+
+/// The bit-order layer: the bits of each byte from last to first.
+pub type BitOrder<D> = Turned<Bits, D>;
+
+pub fn byte_order<D: Driver>(lower: D) -> ByteOrder<D>
+    ensures value { λ r. ⌜ shown by-bytes (D·Driver .tag) r ≡ turn-tag by-bytes (D·Driver .tag lower) ⌝ }
+    ensures same { λ r. ⌜ turn-tag by-bytes (shown by-bytes (D·Driver .tag) r) ≡ D·Driver .tag lower ⌝ }
+    ensures shape { λ r. ⌜ Alike (shown by-bytes (D·Driver .tag) r) (D·Driver .tag lower) ⌝ }
+{
+    over(Bytes, lower)
+}
+
+pub fn bit_order<D: Driver>(lower: D) -> BitOrder<D>
+    ensures value { λ r. ⌜ shown by-bits (D·Driver .tag) r ≡ turn-tag by-bits (D·Driver .tag lower) ⌝ }
+    ensures same { λ r. ⌜ turn-tag by-bits (shown by-bits (D·Driver .tag) r) ≡ D·Driver .tag lower ⌝ }
+    ensures shape { λ r. ⌜ Alike (shown by-bits (D·Driver .tag) r) (D·Driver .tag lower) ⌝ }
+{
+    over(Bits, lower)
+}
+
+/// The layer that turns each block of `lower`. Turned once more, its tag is the one below.
+pub fn over<T: Turn, D: Driver>(turn: T, lower: D) -> Turned<T, D>
+    ensures value { λ r. ⌜ shown (T·Turn .turned) (D·Driver .tag) r ≡ turn-tag (T·Turn .turned) (D·Driver .tag lower) ⌝ }
+    ensures same { λ r. ⌜ turn-tag (T·Turn .turned) (shown (T·Turn .turned) (D·Driver .tag) r) ≡ D·Driver .tag lower ⌝ }
+    ensures shape { λ r. ⌜ Alike (shown (T·Turn .turned) (D·Driver .tag) r) (D·Driver .tag lower) ⌝ }
+{
+    Turned { turn, lower }
+}
+
+/// Two such layers, which show the tag below them.
+pub fn twice<T: Turn + Copy, D: Driver>(turn: T, lower: D) -> Turned<T, Turned<T, D>>
+    ensures same { λ r. ⌜ shown (T·Turn .turned) (shown (T·Turn .turned) (D·Driver .tag)) r ≡ D·Driver .tag lower ⌝ }
+{
+    over(turn, over(turn, lower))
+}
+
 pub impl<T: Turn, D: Driver> Driver for Turned<T, D> as TurnedDriver {
-    ghost tag = { λ s. turn-tag (T·Turn .turned) (D·Driver .tag (s .lower)) };
+    ghost tag = { shown (T·Turn .turned) (D·Driver .tag) };
 
     ghost shaped = { λ s. turn-shaped (T·Turn .turned) (T·Turn .long) (D·Driver .tag (s .lower)) (D·Driver .shaped (s .lower)) };
 
