@@ -2,3 +2,4 @@ pub mod Fronts
 pub mod Granted
 pub mod Turning
 pub mod Windowing
+pub mod Laid
