@@ -1,7 +1,10 @@
 // The bench tag: a driver on lent memory and lent lock flags.
 ghost use mathlib.Core.Path.{_≡_, refl};
 ghost use denote.Ref.{now as held-by};
-ghost use lib.ListN.{length};
+ghost use mathlib.Core.Bool.{true};
+ghost use Prim.Native.Nat.{_+_, _<_, _≤_};
+ghost use lib.ListN.{length, set};
+ghost use borrow.Rule.Slice.PartMut.{putMid};
 ghost use Rattle.std.specs.Results.{Cases};
 ghost use Rattle.std.specs.declared.option.Option.the-variants.{Some, None};
 ghost use Rattle.tags.specs.Tags.{laid};
@@ -45,6 +48,23 @@ impl<'a> Bench<'a> {
             locks,
         })
     }
+}
+
+// Locks one block.
+fn set_flag(locks: &mut [bool], k: usize)
+    requires { ⌜ k < length (now locks) ⌝ }
+    ensures after { λ _. ⌜ now (locks .exit) ≡ set (now (locks .entry)) k true ⌝ }
+{
+    locks[k] = true;
+}
+
+// Replaces the bytes from `at` on.
+fn put(memory: &mut [u8], at: usize, from: &[u8])
+    requires { ⌜ at + length (now from) ≤ length (now memory) ⌝ }
+    ensures after { λ _. ⌜ now (memory .exit) ≡ putMid at (length (now (from .entry))) (now (memory .entry)) (now (from .entry)) ⌝ }
+{
+    let end = at + from.len();
+    memory[at..end].copy_from_slice(from);
 }
 
 impl Bench<'_> {
@@ -105,9 +125,7 @@ pub impl Driver for Bench<'_> as BenchDriver {
         if self.locks[k] {
             return Err(DriverFault::Locked(k));
         }
-        let at = k * shape.size;
-        let end = at + shape.size;
-        self.memory[at..end].copy_from_slice(from);
+        put(self.memory, k * shape.size, from);
         Ok(())
     }
 
@@ -115,7 +133,7 @@ pub impl Driver for Bench<'_> as BenchDriver {
         if k >= self.shape().count {
             return Err(DriverFault::NoBlock(k));
         }
-        self.locks[k] = true;
+        set_flag(self.locks, k);
         Ok(())
     }
 

@@ -1,6 +1,6 @@
 // The window: a driver over any driver that shows some of its blocks.
 ghost use mathlib.Core.Path.{_≡_};
-ghost use Prim.Native.Nat.{_≤_};
+ghost use Prim.Native.Nat.{_+_, _≤_, _<_};
 ghost use Rattle.drivers.specs.Layers.{window-tag, refused-at, told-at, Narrower};
 ghost use Rattle.drivers.proofs.Windowing.{window-shaped};
 ghost use Rattle.windows.specs.Shows.{shown};
@@ -55,6 +55,16 @@ fn told_at<X>(k: usize, answer: Result<X, DriverFault>) -> Result<X, DriverFault
     }
 }
 
+impl<D: Driver> Window<D> {
+    // The lower driver's number of block `k`.
+    fn below(&self, k: usize) -> usize
+        requires { ⌜ k < shown (D·Driver .tag) (now self) .count ⌝ }
+        ensures value { λ r. ⌜ r ≡ now (self .entry) .from + k ⌝ }
+    {
+        self.from + k
+    }
+}
+
 pub impl<D: Driver> Driver for Window<D> as WindowDriver {
     ghost tag = { shown (D·Driver .tag) };
 
@@ -76,7 +86,7 @@ pub impl<D: Driver> Driver for Window<D> as WindowDriver {
         if k >= self.shape().count {
             return Err(DriverFault::NoBlock(k));
         }
-        let below = self.from + k;
+        let below = self.below(k);
         told_at(k, self.lower.locked(below))
     }
 
@@ -84,7 +94,7 @@ pub impl<D: Driver> Driver for Window<D> as WindowDriver {
         if k >= self.shape().count {
             return Err(DriverFault::NoBlock(k));
         }
-        let below = self.from + k;
+        let below = self.below(k);
         told_at(k, self.lower.read(below, out))
     }
 
@@ -92,7 +102,7 @@ pub impl<D: Driver> Driver for Window<D> as WindowDriver {
         if k >= self.shape().count {
             return Err(DriverFault::NoBlock(k));
         }
-        let below = self.from + k;
+        let below = self.below(k);
         told_at(k, self.lower.write(below, from))
     }
 
@@ -100,7 +110,7 @@ pub impl<D: Driver> Driver for Window<D> as WindowDriver {
         if k >= self.shape().count {
             return Err(DriverFault::NoBlock(k));
         }
-        let below = self.from + k;
+        let below = self.below(k);
         told_at(k, self.lower.lock(below))
     }
 
