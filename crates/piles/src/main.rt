@@ -1,8 +1,10 @@
 // Piles of layers over both tags, asked and changed block by block; what it prints is compared.
+mod declines;
 mod exercise;
 
 use bench::Bench;
 use bench::BenchDriver;
+use declines::decline_all;
 use drivers::Driver;
 use exercise::exercise_all;
 use exercise::print_bytes;
@@ -120,5 +122,5 @@ fn main(rt: LibcRuntime) -> io::Result<()> {
         println!(rt, "rehearsal {which}")?;
         over_rehearsal(&rt, which)?;
     }
-    Ok(())
+    decline_all(&rt)
 }
