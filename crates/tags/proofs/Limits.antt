@@ -1,13 +1,13 @@
 -- The tests on a shape, taken apart and put together.
 use mathlib.Core.Path.{_≡_, refl, sym}
-use mathlib.Core.Bool.{Bool, true, false, _&&_}
+use mathlib.Core.List.{List}
+use mathlib.Core.Bool.{Bool, true, false}
 use Prim.Native.Nat.{ℕ, _*_, _≤_, _<_}
 use native.Mathlib.Omega.{arith}
 use native.Mathlib.Nat.{zero-mul}
 use lib.Dec.{leb, eqb}
 use lib.ListN.{length}
-use mathlib.Core.List.{List}
-use Rattle.std.proofs.shelf.Tests.{and-parts, and-from, leb-true, eqb-true, le-leb, eq-eqb, cases-bool}
+use Rattle.std.proofs.shelf.Tests.{and-parts, and-from, leb-true, eqb-true, le-leb, eq-eqb}
 use Rattle.tags.specs.Tags.{Shaped, laid, in-limits, fits, held}
 use Rattle.tags.proofs.Cuts.{laid-shaped}
 
@@ -35,9 +35,12 @@ pub held-below : (fit : Bool) (k n : ℕ) → k < held fit n → (fit ≡ true) 
 held-below true k n h = (refl, h)
 held-below false k n h = absurd (omega arith)
 
--- whatever memory and flags there are, what is held of them is a tag
+-- whatever memory and flags there are, what is held of them is there
+pub held-room : (n b m l : ℕ) (fit : Bool) → fit ≡ fits n b m l → (held fit n * held fit b ≤ m) × (held fit n ≤ l) × (held fit n ≤ 256) × (held fit b ≤ 256)
+held-room n b m l true e = let p = fits-parts n b m l (sym e) in (omega arith, omega arith, p .0, p .1)
+held-room n b m l false e = (omega (arith, zero-mul 0), omega arith, omega arith, omega arith)
+
 pub held-shaped : (n b s : ℕ) (m : List ℕ) (l : List Bool) (fit : Bool) → fit ≡ fits n b (length m) (length l) → Shaped (laid (held fit n) (held fit b) s m l)
-held-shaped n b s m l true e =
-    let p = fits-parts n b (length m) (length l) (sym e) in
-    laid-shaped n b s m l (omega arith) (omega arith) (p .0) (p .1)
-held-shaped n b s m l false e = laid-shaped 0 0 s m l (omega (arith, zero-mul 0)) (omega arith) (omega arith) (omega arith)
+held-shaped n b s m l fit e =
+    let p = held-room n b (length m) (length l) fit e in
+    laid-shaped (held fit n) (held fit b) s m l (p .0) (p .1) (p .2) (p .3)

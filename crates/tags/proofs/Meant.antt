@@ -1,17 +1,19 @@
 -- What is read from a dump's bytes is the tag that they mean.
 use mathlib.Core.Path.{_≡_, refl, sym, ap, _∙_}
-use mathlib.Core.List.{List, map}
+use mathlib.Core.List.{List, [], map}
 use mathlib.Core.Bool.{Bool, true, false, not, cond}
 use Prim.Native.Nat.{ℕ, _+_, _-_, _*_, _≤_, _<_}
 use native.Mathlib.Omega.{arith}
 use lib.Dec.{eqb}
 use lib.ListN.{length, getD, take, drop}
-use Rattle.std.proofs.shelf.Lists.{getD-take, getD-map, getD-past, length-take, length-drop, take-map, take-take, take-all, length-map}
+use Rattle.std.proofs.shelf.Lists.{getD-take, getD-map, getD-past, length-take, length-drop, take-map, take-take, length-map}
 use Rattle.std.proofs.shelf.Tests.{le-ltb, eq-eqb, cond-true, cond-false}
 use Rattle.std.specs.declared.option.Option.the-variants.{None}
-use Rattle.tags.specs.Tags.{Tag, in-limits, fits, held, laid, cut}
-use Rattle.tags.specs.Dumps.{dump-fault, dump-tag, nonzero, size-of, count-of}
-use Rattle.tags.proofs.Limits.{limits-parts, fits-from}
+use Rattle.tags.specs.declared.dumps.Dump.{Dump}
+use Rattle.tags.specs.Tags.{Shaped, in-limits, fits, held, laid, cut}
+use Rattle.tags.specs.Dumps.{dump-fault, dump-fits, dump-means, nonzero, size-of, count-of}
+use Rattle.tags.proofs.Limits.{limits-parts, fits-from, held-room, held-shaped}
+use Rattle.tags.proofs.Cuts.{getD-cut, block-end}
 
 -- a lock byte read in place
 pub lock-at : (n k : ℕ) (l : List ℕ) → k < n → k < length l → not (eqb (getD l k 0) 0) ≡ getD (take n (map nonzero l)) k false
@@ -34,3 +36,22 @@ read-means xs locks content n b s lim exact p q =
     (λ i. laid (held (fit i) n) (held (fit i) b) s (q i) (map nonzero (p i)))
     ∙ ap (λ f. record { count = n; size = b; system = s; blocks = cut n b (drop (3 + n) xs); locks = f })
     (ap (take n) (sym (take-map nonzero n (drop 3 xs))) ∙ take-take n n (map nonzero (drop 3 xs)) (omega arith))
+
+-- every dump means a tag
+pub dump-shaped : (d : Dump) → Shaped (dump-means d)
+dump-shaped d =
+    let n = d .shape .count in
+    let b = d .shape .size in
+    let m = d .content .now in
+    let l = d .locks .now in
+    held-shaped n b (d .system) m (map nonzero l) (dump-fits d) (ap (fits n b (length m)) (sym (length-map l nonzero)))
+
+-- where block k lies in a dump's content
+pub dump-inside : (d : Dump) (k : ℕ) → k < dump-means d .count → k * dump-means d .size + dump-means d .size ≤ length (d .content .now)
+dump-inside d k h =
+    let n = held (dump-fits d) (d .shape .count) in
+    let b = held (dump-fits d) (d .shape .size) in
+    omega (arith, block-end k n b h, held-room (d .shape .count) (d .shape .size) (length (d .content .now)) (length (d .locks .now)) (dump-fits d) refl .0)
+
+pub dump-block : (d : Dump) (k : ℕ) → k < dump-means d .count → getD (dump-means d .blocks) k [] ≡ take (dump-means d .size) (drop (k * dump-means d .size) (d .content .now))
+dump-block d k h = getD-cut (dump-means d .count) (dump-means d .size) k (d .content .now) h
