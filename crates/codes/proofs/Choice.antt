@@ -11,6 +11,7 @@ use lib.ListN.{length, getD}
 use Rattle.std.specs.declared.result.Result.{Result}
 use Rattle.std.specs.declared.result.Result.the-variants.{Ok, Err}
 use Rattle.std.specs.shelf.Digits.{digitsOf, number, Under}
+use Rattle.std.proofs.shelf.Digits.{length-digitsOf-step}
 use Rattle.std.proofs.shelf.Lists.{length-map}
 use Rattle.std.proofs.shelf.Tests.{false≢true, cases-lt, cases-bool, le-leb, leb-true, not-true, not-from-false, and-parts, and-from, both-ways, cond-true, cond-false, cond-both}
 use Rattle.codes.specs.Bits.{packed, bytes-for, ends, spare}
@@ -138,3 +139,26 @@ none-shorter k bs x low u some =
     (λ e. let s : x ≡ bs = cc in omega (arith, ap length s, c .5))
     (λ e. let s : x ≡ bs = cc in omega (arith, ap length s))
     k low
+
+-- an object of some bytes packs to some
+integer-some : (x : List ℕ) → permitted 1 x ≡ true → 1 ≤ length (digitsOf 256 (value x))
+integer-some x h = ⊎-elim
+    (λ some. omega (arith, length-digitsOf-step 256 (value x) (omega arith) some))
+    (λ none.
+    let z : value x ≡ 0 = omega arith in
+    let back : unpacked-integer (digitsOf 256 0) ≡ Ok x = subst (λ v. unpacked-integer (digitsOf 256 v) ≡ Ok x) z (integer-back x h) in
+    let one : Ok (0x30 ∷ []) ≡ Ok x = back in
+    let is : 0x30 ∷ [] ≡ x = cc in
+    absurd (omega (arith, integer-parts x h .0, ap length is)))
+    (cases-lt 0 (value x))
+
+pub packed-some : (k : ℕ) (x : List ℕ) → k < 8 → permitted k x ≡ true → 1 ≤ length x → 1 ≤ length (packed-code k x)
+unfolding permitted packed-code unpacked-code first-code
+packed-some k x low h some =
+    by-code (λ k. permitted k x ≡ true → 1 ≤ length (packed-code k x))
+    (λ h. some) (integer-some x)
+    (λ h. omega (arith, letters-cost 4 15 x (omega arith)))
+    (λ h. omega (arith, letters-cost 5 0 x (omega arith)))
+    (λ h. omega (arith, letters-cost 6 32 x (omega arith)))
+    (λ h. omega (arith, letters-cost 7 127 x (omega arith)))
+    (λ h. some) (λ h. some) k low h

@@ -91,7 +91,7 @@ pub told-by : (k : ℕ) (bs : List ℕ) (r : Result ℕ Fault) → Measured (unp
 told-by k bs (Ok n) h = tt
 told-by k bs (Err f) h = faults-told k bs f h
 
-kind-below : (kind : Kind) → kind-number kind ≤ 2
+pub kind-below : (kind : Kind) → kind-number kind ≤ 2
 kind-below Application = omega arith
 kind-below Compact = omega arith
 kind-below Utf8 = omega arith

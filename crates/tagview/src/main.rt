@@ -1,20 +1,16 @@
-// Lists a dump of a tag that is read from standard input.
-use std::io;
+// Lists the dump of a tag that is read from standard input.
+use listing::listing;
+use std::error::AnyError;
 use std::io::Read;
-use tags::Dump;
 
-fn main(rt: LibcRuntime) -> io::Result<()> {
+fn run(rt: &LibcRuntime) -> Result<(), AnyError> {
     let mut bytes = Vec::new(rt.alloc());
     rt.stdin().read_to_end(&mut bytes)?;
-    match Dump::read(bytes.as_slice()) {
-        Ok(dump) => {
-            let shape = dump.shape();
-            let (count, size, format) = (shape.count, shape.size, dump.system());
-            println!(rt, "tag blocks {count} size {size} format {format}")
-        }
-        Err(fault) => {
-            let (number, place) = (fault.number(), fault.place());
-            println!(rt, "refused {number} {place} 0")
-        }
-    }
+    let text = listing(rt.alloc(), bytes.as_slice())?;
+    rt.print(text.as_str())?;
+    Ok(())
+}
+
+fn main(rt: LibcRuntime) -> Result<(), AnyError> {
+    rt.report(run(&rt))
 }

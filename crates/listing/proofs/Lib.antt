@@ -1,0 +1,3 @@
+pub mod Hexing
+pub mod Filling
+pub mod Passing

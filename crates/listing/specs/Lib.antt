@@ -1,0 +1,4 @@
+pub mod Fills
+pub mod Lines
+pub mod Verdicts
+pub mod Listings

@@ -1,0 +1,4 @@
+pub mod Sweeps
+pub mod Contents
+pub mod Judging
+pub mod Entering

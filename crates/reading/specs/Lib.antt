@@ -1,0 +1,4 @@
+pub mod Faults
+pub mod Checks
+pub mod Entries
+pub mod Inner

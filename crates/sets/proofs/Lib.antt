@@ -1,0 +1,16 @@
+pub mod Parts
+pub mod Fronts
+pub mod Written
+pub mod Tilings
+pub mod Laying
+pub mod Shared
+pub mod Bordering
+pub mod Spelled
+pub mod Here
+pub mod Bodies
+pub mod Places
+pub mod Searching
+pub mod Sweeping
+pub mod Repeats
+pub mod Meaning
+pub mod Least

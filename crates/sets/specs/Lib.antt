@@ -1,0 +1,13 @@
+pub mod Sets
+pub mod Parsing
+pub mod Writing
+pub mod Scans
+pub mod Tilings
+pub mod Objects
+pub mod Readings
+pub mod Meanings
+pub mod Laws
+pub mod Layouts
+pub mod Runs
+pub mod Blocks
+pub mod Examples
