@@ -1,0 +1,17 @@
+pub mod Format
+pub mod Walks
+pub mod Borders
+pub mod Seals
+pub mod Parts
+pub mod Readied
+pub mod Blocks
+pub mod Runs
+pub mod Places
+pub mod Holds
+pub mod Meets
+pub mod Bridges
+pub mod Promised
+pub mod Relays
+pub mod Anew
+pub mod Fits
+pub mod Worked

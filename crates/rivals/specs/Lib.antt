@@ -1,0 +1,5 @@
+pub mod Memories
+pub mod Rooms
+pub mod Promises
+pub mod Relaid
+pub mod Examples
