@@ -88,7 +88,7 @@ run-last (w ∷ v ∷ ws) extra zero d h l = absurd (omega arith)
 run-last (w ∷ v ∷ ws) extra (suc i) d h l = run-last (v ∷ ws) extra i d (omega arith) (omega arith)
 
 -- tiles end to end
-laid-append : (ts us : List Tile) → laid (ts ++ us) ≡ laid ts ++ laid us
+pub laid-append : (ts us : List Tile) → laid (ts ++ us) ≡ laid ts ++ laid us
 unfolding laid
 laid-append [] us = refl
 laid-append (t ∷ ts) us = ap (λ l. written t ++ l) (laid-append ts us) ∙ sym (append-assoc (written t) (laid ts) (laid us))
@@ -110,7 +110,7 @@ abbrev extra-of : List Wanted → ℕ → ℕ
 extra-of [] extra = 0
 extra-of (w ∷ ws) extra = extra
 
-more-extra : (extra : ℕ) (w : Wanted) → size (formed extra w) ≡ least w + extra
+pub more-extra : (extra : ℕ) (w : Wanted) → size (formed extra w) ≡ least w + extra
 more-extra extra w = omega arith
 
 pub run-bytes : (ws : List Wanted) (extra : ℕ) → All Fit ws → extra ≤ 256 → length (laid (run ws extra)) ≡ total ws + extra-of ws extra

@@ -13,6 +13,7 @@ ghost use Rattle.sets.specs.Writing.{encode};
 ghost use Rattle.writing.specs.Puts.{Puts};
 ghost use Rattle.layout.specs.Plans.{Fit, least, total, run, taken, formed};
 ghost use Rattle.layout.specs.Lays.{wanted, Lays, Totals};
+ghost use Rattle.layout.specs.Anew.{Laid-reads, Rivals-need};
 use super::items::Behind;
 use super::items::Item;
 use super::items::LayoutFault;
@@ -103,9 +104,8 @@ fn take_over(items: &[Item], left: usize) -> usize
     if items.is_empty() { 0 } else { left.min(256) }
 }
 
-/// The gap with just these items, in smallest form from its start. What is left over goes, before a locked block, to
-/// the last of them as offset and pad, up to 256 bytes, and then to fillers; at the end of the memory it is zero.
-pub fn lay_out(gap: &mut [u8], items: &[Item], behind: Behind) -> Result<(), LayoutFault>
+// The work of `lay_out`.
+pub(crate) fn lay(gap: &mut [u8], items: &[Item], behind: Behind) -> Result<(), LayoutFault>
     ensures { λ r. ⌜ Lays behind (map wanted (now (items .entry))) (now (gap .entry)) (now (gap .exit)) r ⌝ }
 {
     let left = gap.len() - measure(items, gap.len())?;
@@ -120,4 +120,16 @@ pub fn lay_out(gap: &mut [u8], items: &[Item], behind: Behind) -> Result<(), Lay
         }
     }
     Ok(())
+}
+
+/// The gap with just these items, in smallest form from its start. What is left over goes, before a locked block, to
+/// the last of them as offset and pad, up to 256 bytes, and then to fillers; at the end of the memory it is zero.
+/// A memory with such bytes in a gap reads as the same list with just those entries there. Whatever rival has these
+/// entries in that gap has room for their sum, so a gap is too small only where no rival would do.
+pub fn lay_out(gap: &mut [u8], items: &[Item], behind: Behind) -> Result<(), LayoutFault>
+    ensures value { λ r. ⌜ Lays behind (map wanted (now (items .entry))) (now (gap .entry)) (now (gap .exit)) r ⌝ }
+    ensures reads { λ _. ⌜ Laid-reads ⌝ }
+    ensures rivals { λ _. ⌜ Rivals-need ⌝ }
+{
+    lay(gap, items, behind)
 }

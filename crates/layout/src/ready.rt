@@ -7,7 +7,8 @@ ghost use Rattle.std.specs.shelf.Lists.{All};
 ghost use Rattle.writing.specs.Puts.{Puts};
 ghost use Rattle.layout.specs.Plans.{Fit, least, total, whole, nth};
 ghost use Rattle.layout.specs.Lays.{wanted, laid-gap, three-parts, Readies};
-use super::gaps::lay_out;
+ghost use Rattle.layout.specs.Anew.{Ready-reads, Ready-rivals};
+use super::gaps::lay;
 use super::gaps::measure;
 use super::items::Behind;
 use super::items::Item;
@@ -66,7 +67,7 @@ fn lay_part(gap: &mut [u8], from: usize, to: usize, items: &[Item], behind: Behi
     requires room { ⌜ total (map wanted (now items)) ≤ to - from ⌝ }
     ensures { λ _. ⌜ Puts from (laid-gap behind (map wanted (now (items .entry))) (to - from)) (now (gap .entry)) (now (gap .exit)) to ⌝ }
 {
-    match lay_out(&mut gap[from..to], items, behind) {
+    match lay(&mut gap[from..to], items, behind) {
         Ok(()) => (),
         Err(_) => unreachable(),
     }
@@ -87,9 +88,8 @@ fn lay_three(gap: &mut [u8], at: usize, end: usize, items: &[Item], named: usize
     lay_part(gap, end, last, &items[named + 1..items.len()], behind);
 }
 
-/// The gap with just these items, the one at `named` readied: it begins at the first block start behind those before
-/// it, which take the bytes up to there, and is padded to a block's end. What is left over never goes to it.
-pub fn lay_ready(
+// The work of `lay_ready`.
+fn lay_readied(
     gap: &mut [u8],
     block: usize,
     items: &[Item],
@@ -114,4 +114,22 @@ pub fn lay_ready(
     }
     lay_three(gap, at, at + bytes, items, named, behind);
     Ok(Readied { at, bytes })
+}
+
+/// The gap with just these items, the one at `named` readied: it begins at the first block start behind those before
+/// it, which take the bytes up to there, and is padded to a block's end. What is left over never goes to it.
+/// A memory with such bytes in a gap reads as the same list with just those entries there, the readied set alone on
+/// whole blocks; and whatever rival has that set alone on whole blocks needs as many bytes.
+pub fn lay_ready(
+    gap: &mut [u8],
+    block: usize,
+    items: &[Item],
+    named: usize,
+    behind: Behind,
+) -> Result<Readied, LayoutFault>
+    ensures value { λ r. ⌜ Readies behind block (map wanted (now (items .entry))) named (now (gap .entry)) (now (gap .exit)) r ⌝ }
+    ensures reads { λ _. ⌜ Ready-reads ⌝ }
+    ensures rivals { λ _. ⌜ Ready-rivals ⌝ }
+{
+    lay_readied(gap, block, items, named, behind)
 }
