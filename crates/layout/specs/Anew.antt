@@ -47,7 +47,7 @@ pub record On-blocks (m : Memory) (at : ℕ) (w : Wanted) : Type 0 where
   pub before : List Found
   pub behind : List Found
   pub stands : found (m .bytes) ≡ before ++ (record { at = at; set = set } ∷ behind)
-  pub is : (content (set .name) ≡ w .identifier)
+  pub is : content (set .name) ≡ w .identifier
   pub starts : at % m .size ≡ 0
   pub fills : size set % m .size ≡ 0
 
