@@ -90,6 +90,11 @@ fn run(rt: &LibcRuntime) -> Result<(), AnyError> {
         }
     }
     println!(rt, "{alike} dumps answered alike")?;
+    println!(
+        rt,
+        "worked examples held by the definitions {}",
+        sets::examples_hold()
+    )?;
     Ok(())
 }
 
