@@ -148,10 +148,10 @@ fn bytes_for(width: u32, count: usize) -> usize
 
 // The i-th group of an object; behind its groups stands the padding group.
 fn group_or_pad<C: Code>(code: &C, object: &[u8], count: usize, i: usize) -> u8
-    requires suited { permitted (listed code.now) object.now ≡ true }
-    requires counted { count ≡ length (spelled code.now object.now) }
+    requires suited { permitted (C.listed code.now) object.now ≡ true }
+    requires counted { count ≡ length (C.spelled code.now object.now) }
     requires inside { i < count + 2 }
-    ensures { result ≡ slice_index (spelled code.now object.now ++ (pad code.now ∷ pad code.now ∷ [])) i }
+    ensures { result ≡ slice_index (C.spelled code.now object.now ++ (C.pad code.now ∷ C.pad code.now ∷ [])) i }
 {
     if i < count {
         code.group(object, i)
@@ -161,11 +161,11 @@ fn group_or_pad<C: Code>(code: &C, object: &[u8], count: usize, i: usize) -> u8
 }
 
 fn packed_byte<C: Code>(code: &C, object: &[u8], count: usize, j: usize) -> u8
-    requires suited { permitted (listed code.now) object.now ≡ true }
-    requires counted { count ≡ length (spelled code.now object.now) }
+    requires suited { permitted (C.listed code.now) object.now ≡ true }
+    requires counted { count ≡ length (C.spelled code.now object.now) }
     requires few { count ≤ 2048 }
-    requires inside { j < bytes_for (wide code.now) count }
-    ensures { result ≡ slice_index (packed_code (listed code.now) object.now) j }
+    requires inside { j < bytes_for (C.wide code.now) count }
+    ensures { result ≡ slice_index (packed_code (C.listed code.now) object.now) j }
 {
     let width = code.width();
     let from = begins(j, 8, width);
@@ -178,14 +178,14 @@ fn packed_byte<C: Code>(code: &C, object: &[u8], count: usize, j: usize) -> u8
 
 // The bytes that an object takes when it is packed.
 fn length_with<C: Code>(code: &C, object: &[u8]) -> usize
-    requires { permitted (listed code.now) object.now ≡ true }
-    ensures { result ≡ length (packed_code (listed code.now) object.now) }
+    requires { permitted (C.listed code.now) object.now ≡ true }
+    ensures { result ≡ length (packed_code (C.listed code.now) object.now) }
 {
     bytes_for(code.width(), code.count(object))
 }
 
 fn pack_with<C: Code>(code: &C, object: &[u8], out: &mut [u8]) -> Result<usize, PackFault>
-    ensures { Packs (listed code.now) object.now out.old out.new result }
+    ensures { Packs (C.listed code.now) object.now out.old out.new result }
 {
     if object.is_empty() || object.len() > 2048 {
         return Err(PackFault::Size);
@@ -248,7 +248,7 @@ fn ends_padded(width: u32, padding: u8, bytes: &[u8]) -> bool
 }
 
 fn measure_with<C: Code>(code: &C, bytes: &[u8]) -> Result<usize, Fault>
-    ensures { Measured (unpacked_code (listed code.now) bytes.now) result }
+    ensures { Measured (unpacked_code (C.listed code.now) bytes.now) result }
 {
     let width = code.width();
     let padding = code.padding();
@@ -261,7 +261,7 @@ fn measure_with<C: Code>(code: &C, bytes: &[u8]) -> Result<usize, Fault>
 }
 
 fn unpack_with<C: Code>(code: &C, bytes: &[u8], out: &mut [u8]) -> Result<usize, UnpackFault>
-    ensures { Unpacks (unpacked_code (listed code.now) bytes.now) out.old out.new result }
+    ensures { Unpacks (unpacked_code (C.listed code.now) bytes.now) out.old out.new result }
 {
     let length = measure_with(code, bytes)?;
     if out.len() < length {

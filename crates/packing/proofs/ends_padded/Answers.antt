@@ -4,12 +4,12 @@ use Rattle.packing.proofs.Meaning.{some_bytes, pads_none, pads_some}
 use Rattle.packing.proofs.ends_padded.Goals as goal
 
 pub returns-then-bit-eq0 : goal.returns-then-bit-eq0
-returns-then-bit-eq0 c = pads_none c.args.width c.args.padding c.args.bytes.now (omega arith) (sym c.whole-groups-bit.ensures.bit ∙ c.if-bit-eq0.true)
+returns-then-bit-eq0 c = pads_none c.args.width c.args.padding c.args.bytes.now (omega arith) (sym c.whole_groups-bit.ensures.bit ∙ c.if-bit-eq0.true)
 
 pub returns : goal.returns
 returns c =
     let w = c.args.width in
-    let r = c.whole-groups-bit.result.bit in
-    let few : c.whole-groups-bit.result.bit < c.args.width = subst (λ k. k < w) (sym c.whole-groups-bit.ensures.bit) (mod_below (length c.args.bytes.now * 8) w (omega arith)) in
+    let r = c.whole_groups-bit.result.bit in
+    let few : c.whole_groups-bit.result.bit < c.args.width = subst (λ k. k < w) (sym c.whole_groups-bit.ensures.bit) (mod_below (length c.args.bytes.now * 8) w (omega arith)) in
     (λ j. eqb (c.from-last.result % one_shl r 32 (omega arith) j) (c.from.ensures j / 2 ^ (w - r)))
-    ∙ pads_some w c.args.padding c.args.bytes.now (omega arith) r c.from-last.result c.whole-groups-bit.ensures.bit (omega arith) c.requires.fits (omega arith) c.from-last.ensures
+    ∙ pads_some w c.args.padding c.args.bytes.now (omega arith) r c.from-last.result c.whole_groups-bit.ensures.bit (omega arith) c.requires.fits (omega arith) c.from-last.ensures

@@ -18,5 +18,5 @@ returns c =
     let w = c.args.width in
     let bs = c.args.bytes.now in
     let s = c.begins-from.result.bit in
-    c.cut.ensures ∙ (λ j. three 8 (c.byte-or-zero-a.ensures j) (c.byte-or-zero-b.ensures j) (c.byte-or-zero-c.ensures j) / 2 ^ (8 + 8 + 8 - s - w) % 2 ^ w)
+    c.cut.ensures ∙ (λ j. three 8 (c.byte_or_zero-a.ensures j) (c.byte_or_zero-b.ensures j) (c.byte_or_zero-c.ensures j) / 2 ^ (8 + 8 + 8 - s - w) % 2 ^ w)
     ∙ group-is w c.args.i bs c.begins-from.result.group s (omega arith) (omega arith) (All-from_get_or (λ d. d < 256) c.args.bytes.now 0 (λ i h. (c.type-inv.bytes i).fits)) c.requires.inside c.begins-from.ensures.group c.begins-from.ensures.bit

@@ -9,7 +9,7 @@ returns-then-out-n g c =
     let m = g.C.Code in
     let suited = sym c.if-not-suits.ensures in
     let groups = g.met.C.Code.packs c.args.code.now c.args.object.now suited (All-from_get_or (λ d. d < 256) c.args.object.now 0 (λ i h. (c.type-inv.object i).fits)) in
-    let long = packed-long _ (m.wide c.args.code.now) (m.pad c.args.code.now) _ c.bytes-for-n.result (m.spelled c.args.code.now c.args.object.now) _ c.width.ensures c.count-count.ensures.value (g.met.C.Code.sized c.args.code.now).0 groups.1 c.bytes-for-n.ensures in
+    let long = packed-long _ (m.wide c.args.code.now) (m.pad c.args.code.now) _ c.bytes_for-n.result (m.spelled c.args.code.now c.args.object.now) _ c.width.ensures c.count-count.ensures.value (g.met.C.Code.sized c.args.code.now).0 groups.1 c.bytes_for-n.ensures in
     (search rules, suited, (long, c.if-out-n.true, refl))
 
 pub loop-j-preserved : goal.loop-j-preserved
@@ -17,7 +17,7 @@ loop-j-preserved g c =
     let m = g.C.Code in
     let suited = sym c.if-not-suits.ensures in
     let groups = g.met.C.Code.packs c.args.code.now c.args.object.now suited (All-from_get_or (λ d. d < 256) c.args.object.now 0 (λ i h. (c.type-inv.object i).fits)) in
-    let long = packed-long _ (m.wide c.args.code.now) (m.pad c.args.code.now) _ c.bytes-for-n.result (m.spelled c.args.code.now c.args.object.now) _ c.width.ensures c.count-count.ensures.value (g.met.C.Code.sized c.args.code.now).0 groups.1 c.bytes-for-n.ensures in
+    let long = packed-long _ (m.wide c.args.code.now) (m.pad c.args.code.now) _ c.bytes_for-n.result (m.spelled c.args.code.now c.args.object.now) _ c.width.ensures c.count-count.ensures.value (g.met.C.Code.sized c.args.code.now).0 groups.1 c.bytes_for-n.ensures in
     fill_more c.loop-j.invariant c.packed-byte.result c.packed-byte.ensures (omega (arith, long)) (omega arith)
 
 pub returns : goal.returns
@@ -25,5 +25,5 @@ returns g c =
     let m = g.C.Code in
     let suited = sym c.if-not-suits.ensures in
     let groups = g.met.C.Code.packs c.args.code.now c.args.object.now suited (All-from_get_or (λ d. d < 256) c.args.object.now 0 (λ i h. (c.type-inv.object i).fits)) in
-    let long = packed-long _ (m.wide c.args.code.now) (m.pad c.args.code.now) _ c.bytes-for-n.result (m.spelled c.args.code.now c.args.object.now) _ c.width.ensures c.count-count.ensures.value (g.met.C.Code.sized c.args.code.now).0 groups.1 c.bytes-for-n.ensures in
-    (search rules, suited, (long, fill_done c.loop-j.invariant c.bytes-for-n.result long (omega arith)))
+    let long = packed-long _ (m.wide c.args.code.now) (m.pad c.args.code.now) _ c.bytes_for-n.result (m.spelled c.args.code.now c.args.object.now) _ c.width.ensures c.count-count.ensures.value (g.met.C.Code.sized c.args.code.now).0 groups.1 c.bytes_for-n.ensures in
+    (search rules, suited, (long, fill_done c.loop-j.invariant c.bytes_for-n.result long (omega arith)))

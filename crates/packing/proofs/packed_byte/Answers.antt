@@ -44,7 +44,7 @@ returns g c =
     let k = c.begins-from.result.group in
     let s = c.begins-from.result.bit in
     let sized = g.met.C.Code.sized c.args.code.now in
-    let groups = g.met.C.Code.packs c.args.code.now c.args.object.now c.requires.suited (All-from_get_or (λ d. d < 256) c.args.object.now 0 (λ i h. (c.type-inv.object i).fits)) in
+    let groups = g.met.C.Code.packs c.args.code.now c.args.object.now c.requires.suited (All-from_get_or (λ d. d < 256) c.args.object.now 0 (λ i h. (c.ok.object i).fits)) in
     c.cut.ensures
     ∙ (λ i. three (e i) (c.group-or-pad-a.ensures i) (c.group-or-pad-b.ensures i) (c.group-or-pad-c.ensures i) / 2 ^ (e i + e i + e i - s - 8) % 2 ^ 8)
     ∙ byte-is w p gs c.args.j k s sized.0 sized.2 groups.0 (subst (λ n. c.args.j < bytes_for w n) c.requires.counted c.requires.inside) (c.begins-from.ensures.group ∙ ap (λ w. c.args.j * 8 / w) e) (c.begins-from.ensures.bit ∙ ap (λ w. c.args.j * 8 % w) e)

@@ -23,4 +23,4 @@ loop-i-preserved g c =
     fill_more c.loop-i.invariant c.byte.result (c.byte.ensures ∙ ap (λ x. get_or x c.loop-i.i 0) same) (omega (arith, c.in-ok-length.ensures.1)) (omega arith)
 
 pub returns : goal.returns
-returns g c = (c.in-ok-length.ensures.0, (c.in-ok-length.ensures.1, fill_done c.loop-i.invariant c.in-ok-length.length c.in-ok-length.ensures.1 (omega arith)))
+returns g c = (c.in_ok-length.ensures.0, (c.in_ok-length.ensures.1, fill_done c.loop-i.invariant c.in_ok-length.length c.in_ok-length.ensures.1 (omega arith)))

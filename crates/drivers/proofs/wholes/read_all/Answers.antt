@@ -15,7 +15,7 @@ loop-k-preserved g c =
     let d = c.args.d.now in
     let t = g.D.Driver.tag d in
     let s = c.shape-shape.ensures.value in
-    let got = read_ok (g.D.Driver.tag c.loop-k.d) c.loop-k.k _ _ _ c.in-ok-read.was c.read.ensures.answer c.read.ensures.after in (
+    let got = read_ok (g.D.Driver.tag c.loop-k.d) c.loop-k.k _ _ _ c.in_ok-read.was c.read.ensures.answer c.read.ensures.after in (
       front-more t (g.D.Driver.shaped d) c.args.image.now c.loop-k.image c.read.new.out c.loop-k.k _ _ (omega (arith, s.0)) c.loop-k.invariant.0
           (rw c.loop-k.invariant.1 at got)
           (ap (λ n. c.loop-k.k * n) s.1)

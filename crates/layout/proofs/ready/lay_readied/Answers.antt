@@ -19,36 +19,36 @@ returns-in-err--total c =
     subst (Readies c.args.behind c.args.block ws c.args.named c.args.gap.now c.args.gap.now) (sym q.1)
     (measured_err c.args.behind c.args.block c.args.items.now c.args.named c.args.gap.now q.0 c.if-named-items.false (subst (λ f. Totals ws (length c.args.gap.now) (Err f)) (sym q.2) c.in-err--total.ensures))
 
-pub on-blocks-at-requires : goal.on-blocks-at-requires
-on-blocks-at-requires c =
+pub on_blocks-at-requires : goal.on_blocks-at-requires
+on_blocks-at-requires c =
     let p = c.in-ok--total.ensures in
     record { blocks = (omega arith, omega arith); few = omega (arith, c.sums-taken.ensures.before, parts-sum c.args.items.now c.args.named c.if-named-items.false, p.1, p.2) }
 
-pub on-blocks-bytes-requires : goal.on-blocks-bytes-requires
-on-blocks-bytes-requires c =
+pub on_blocks-bytes-requires : goal.on_blocks-bytes-requires
+on_blocks-bytes-requires c =
     let p = c.in-ok--total.ensures in
     record { blocks = (omega arith, omega arith); few = omega (arith, c.sums-taken.ensures.alone, parts-sum c.args.items.now c.args.named c.if-named-items.false, p.1, p.2) }
 
 pub overflow-add-at : goal.overflow-add-at
 overflow-add-at c =
     let p = c.in-ok--total.ensures in
-    record { fits = omega (arith, c.on-blocks-at.ensures.bound, c.on-blocks-bytes.ensures.bound, c.sums-taken.ensures.before, c.sums-taken.ensures.alone, parts-sum c.args.items.now c.args.named c.if-named-items.false, p.1, p.2) }
+    record { fits = omega (arith, c.on_blocks-at.ensures.bound, c.on_blocks-bytes.ensures.bound, c.sums-taken.ensures.before, c.sums-taken.ensures.alone, parts-sum c.args.items.now c.args.named c.if-named-items.false, p.1, p.2) }
 
 pub overflow-add-at-2 : goal.overflow-add-at-2
 overflow-add-at-2 c =
     let p = c.in-ok--total.ensures in
-    record { fits = omega (arith, c.on-blocks-at.ensures.bound, c.on-blocks-bytes.ensures.bound, c.sums-taken.ensures.before, c.sums-taken.ensures.alone, c.sums-taken.ensures.after, parts-sum c.args.items.now c.args.named c.if-named-items.false, p.1, p.2) }
+    record { fits = omega (arith, c.on_blocks-at.ensures.bound, c.on_blocks-bytes.ensures.bound, c.sums-taken.ensures.before, c.sums-taken.ensures.alone, c.sums-taken.ensures.after, parts-sum c.args.items.now c.args.named c.if-named-items.false, p.1, p.2) }
 
 pub returns-then-room-at : goal.returns-then-room-at
 returns-then-room-at c =
-    let e = c.on-blocks-at.ensures.value ∙ ap (whole c.args.block) c.sums-taken.ensures.before in
-    let f = c.on-blocks-bytes.ensures.value ∙ ap (whole c.args.block) c.sums-taken.ensures.alone in
+    let e = c.on_blocks-at.ensures.value ∙ ap (whole c.args.block) c.sums-taken.ensures.before in
+    let f = c.on_blocks-bytes.ensures.value ∙ ap (whole c.args.block) c.sums-taken.ensures.alone in
     (omega (arith, e, f, c.sums-taken.ensures.after, c.if-room-at.true), refl)
 
 pub lay-three-requires : goal.lay-three-requires
 lay-three-requires c =
-    let e = c.on-blocks-at.ensures.value ∙ ap (whole c.args.block) c.sums-taken.ensures.before in
-    let f = c.on-blocks-bytes.ensures.value ∙ ap (whole c.args.block) c.sums-taken.ensures.alone in
+    let e = c.on_blocks-at.ensures.value ∙ ap (whole c.args.block) c.sums-taken.ensures.before in
+    let f = c.on_blocks-bytes.ensures.value ∙ ap (whole c.args.block) c.sums-taken.ensures.alone in
     record {
       parts = (omega arith, omega (arith, c.if-room-at.false), c.if-named-items.false);
       fit = c.in-ok--total.ensures.0;
@@ -60,6 +60,6 @@ lay-three-requires c =
 pub returns : goal.returns
 returns c =
     let ws = map wanted c.args.items.now in
-    let e = c.on-blocks-at.ensures.value ∙ ap (whole c.args.block) c.sums-taken.ensures.before in
-    let f = c.on-blocks-bytes.ensures.value ∙ ap (whole c.args.block) c.sums-taken.ensures.alone in
+    let e = c.on_blocks-at.ensures.value ∙ ap (whole c.args.block) c.sums-taken.ensures.before in
+    let f = c.on_blocks-bytes.ensures.value ∙ ap (whole c.args.block) c.sums-taken.ensures.alone in
     (c.in-ok--total.ensures.0, omega (arith, e, f, c.sums-taken.ensures.after, c.if-room-at.false), e, f, c.lay-three.ensures ∙ (λ j. three_parts c.args.behind ws c.args.named (e j) (e j + f j) (length c.args.gap.now)))

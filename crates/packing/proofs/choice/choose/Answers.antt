@@ -11,8 +11,8 @@ returns-in-Application c =
 
 pub returns-in-Compact : goal.returns-in-Compact
 returns-in-Compact c =
-    let e = c.choose-compact.ensures ∙ ap (λ k. first_code k c.args.object.now) (sym (ap kind_number c.in-Compact.is)) in
-    record { value = e; least = shortest_by (code_number c.choose-compact.result) (kind_number c.args.kind) c.args.object.now e }
+    let e = c.choose_compact.ensures ∙ ap (λ k. first_code k c.args.object.now) (sym (ap kind_number c.in-Compact.is)) in
+    record { value = e; least = shortest_by (code_number c.choose_compact.result) (kind_number c.args.kind) c.args.object.now e }
 
 pub returns-in-Utf8 : goal.returns-in-Utf8
 returns-in-Utf8 c =

@@ -6,7 +6,7 @@ use Rattle.packing.proofs.choice.pack.Goals as goal
 
 pub returns : goal.returns
 returns c =
-    let n = c.in-ok-length.length in
+    let n = c.in_ok-length.length in
     let x = c.args.object.now in
-    let stored = subst (λ k. Packs k x c.args.out.now c.pack-as.new.out (Ok n)) c.choose-code.ensures.value c.in-ok-length.ensures.value in
+    let stored = subst (λ k. Packs k x c.args.out.now c.pack_as.new.out (Ok n)) c.choose-code.ensures.value c.in_ok-length.ensures.value in
     record { value = (c.choose-code.ensures.value, stored); least = none_by (kind_number c.args.kind) n x stored.2.0 }

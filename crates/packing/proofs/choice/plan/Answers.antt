@@ -8,4 +8,4 @@ pub length-by-length-requires : goal.length-by-length-requires
 length-by-length-requires c = permitted_by c.args.kind c.args.object.now _ c.choose-code.ensures.value
 
 pub returns : goal.returns
-returns c = (search rules, c.choose-code.ensures.value, c.length-by-length.ensures ∙ ap (λ k. length (packed_code k c.args.object.now)) c.choose-code.ensures.value)
+returns c = (search rules, c.choose-code.ensures.value, c.length_by-length.ensures ∙ ap (λ k. length (packed_code k c.args.object.now)) c.choose-code.ensures.value)

@@ -9,4 +9,4 @@ pub overflow-add-result : goal.overflow-add-result
 overflow-add-result c = record { fits = omega (arith, c.digit-at.ensures, digit_lt c.args.number c.args.i (omega (arith, decimal-long c.args.number c.if-number-eq0.false))) }
 
 pub returns : goal.returns
-returns c = ap (λ d. 0x30 + d) c.digit-at.ensures ∙ decimal-get_or c.args.number c.args.i c.if-number-eq0.false (omega (arith, decimal-long c.args.number c.if-number-eq0.false))
+returns c = ap (λ d. 0x30 + d) c.digit_at.ensures ∙ decimal-get_or c.args.number c.args.i c.if-number-eq0.false (omega (arith, decimal-long c.args.number c.if-number-eq0.false))

@@ -34,8 +34,8 @@ slice-bounds-sets-end c =
     reaches c.args.image.now c.args.table.now c.scan-image.new.table t (clean (length c.args.table.now) c.args.image.now t k.value) k.after in
     search rules
 
-pub stray-block-requires : goal.stray-block-requires
-stray-block-requires c =
+pub stray_block-requires : goal.stray_block-requires
+stray_block-requires c =
     let t = c.in-ok-tally.tally in
     let k = c.in-ok-tally.ensures in
     record {

@@ -17,12 +17,12 @@ returns-then-lead-lt128 c = record {
 pub returns-then-image-from : goal.returns-then-image-from
 returns-then-image-from c = record { value = id-short c.args.nibble c.args.image.now c.args.at (omega arith) (omega arith) (omega arith) (omega arith) (omega arith); cases = tt }
 
-pub returns-then-not-whole-arcs : goal.returns-then-not-whole-arcs
-returns-then-not-whole-arcs c = record {
+pub returns-then-not-whole_arcs : goal.returns-then-not-whole_arcs
+returns-then-not-whole_arcs c = record {
   value =
       id-arcs c.args.nibble c.args.image.now c.args.at (omega arith) (omega arith) (omega arith) (omega arith) (omega arith) _
       (ap (λ k. take k (drop (c.args.at + 1) c.args.image.now)) (omega arith))
-      (sym c.if-not-whole-arcs.ensures.value);
+      (sym c.if-not-whole_arcs.ensures.value);
   cases = tt;
 }
 
@@ -31,6 +31,6 @@ returns c = record {
   value =
       id-led c.args.nibble c.args.image.now c.args.at (omega arith) (omega arith) (omega arith) (omega arith) (omega arith) _
       (ap (λ k. take k (drop (c.args.at + 1) c.args.image.now)) (omega arith))
-      (sym c.if-not-whole-arcs.ensures.value);
+      (sym c.if-not-whole_arcs.ensures.value);
   cases = (omega arith, omega arith);
 }

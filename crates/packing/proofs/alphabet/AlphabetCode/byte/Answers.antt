@@ -13,4 +13,4 @@ group-of-requires c =
 pub returns : goal.returns
 returns c =
     let s = c.args.self.now in
-    c.letter.ensures ∙ ap (letter s.width s.first) c.group-of.ensures ∙ (lettered-said s.width s.first s.last (whole s.width c.args.bytes.now) c.args.-n (omega (arith, many-whole s.width c.args.bytes.now _ refl)) c.args.i c.requires.here).1
+    c.letter.ensures ∙ ap (letter s.width s.first) c.group_of.ensures ∙ (lettered-said s.width s.first s.last (whole s.width c.args.bytes.now) c.args._n (omega (arith, many-whole s.width c.args.bytes.now _ refl)) c.args.i c.requires.here).1

@@ -10,7 +10,7 @@ group-of-requires c = let s = c.args.self.now in record { widths = ((row s).wide
 pub returns-then-letter-self : goal.returns-then-letter-self
 returns-then-letter-self c =
     let s = c.args.self.now in
-    lettered-stop s.width s.first s.last (whole s.width c.args.bytes.now) c.args.n (omega (arith, many-whole s.width c.args.bytes.now _ refl)) c.loop-i.i c.loop-i.invariant c.loop-i-test.true (subst (λ b. s.last < b) (c.letter.ensures ∙ ap (letter s.width s.first) c.group-of.ensures) c.if-letter-self.true)
+    lettered-stop s.width s.first s.last (whole s.width c.args.bytes.now) c.args.n (omega (arith, many-whole s.width c.args.bytes.now _ refl)) c.loop-i.i c.loop-i.invariant c.loop-i-test.true (subst (λ b. s.last < b) (c.letter.ensures ∙ ap (letter s.width s.first) c.group_of.ensures) c.if-letter-self.true)
 
 pub loop-i-preserved : goal.loop-i-preserved
 loop-i-preserved c =
@@ -18,7 +18,7 @@ loop-i-preserved c =
     let gs = whole s.width c.args.bytes.now in
     let in' : c.args.n ≤ _ = omega (arith, c.requires, many-whole s.width c.args.bytes.now _ refl) in
     upto-more s.last (spelt s.width s.first s.last gs c.args.n in') c.loop-i.i c.loop-i.invariant (omega (arith, spelt-long s.width s.first s.last gs c.args.n in'))
-    (subst (λ b. b ≤ s.last) (c.letter.ensures ∙ ap (letter s.width s.first) c.group-of.ensures ∙ sym (letter_at s.width s.first s.last gs c.args.n in' c.loop-i.i c.loop-i-test.true)) c.if-letter-self.false)
+    (subst (λ b. b ≤ s.last) (c.letter.ensures ∙ ap (letter s.width s.first) c.group_of.ensures ∙ sym (letter_at s.width s.first s.last gs c.args.n in' c.loop-i.i c.loop-i-test.true)) c.if-letter-self.false)
 
 pub returns : goal.returns
 returns c =

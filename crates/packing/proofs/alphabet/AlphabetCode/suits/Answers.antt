@@ -17,11 +17,11 @@ returns c =
     let s = c.args.self.now in
     let l = row s in
     elim c.else-self.branch [
-      | else-self-via-then-self+else-n-eq0 v ↦ suit-odd l c.args.object.now c.if-n-self.false c.if-not-all-within.ensures v.if-n-eq0.false
-      | else-self-via-else-self v ↦ suit-plain l c.args.object.now c.if-n-self.false c.if-not-all-within.ensures v.if-self.false
+      | else-self-via-then-self+else-n-eq0 v ↦ suit-odd l c.args.object.now c.if-n-self.false c.if-not-all_within.ensures v.if-n-eq0.false
+      | else-self-via-else-self v ↦ suit-plain l c.args.object.now c.if-n-self.false c.if-not-all_within.ensures v.if-self.false
     ]
 
 pub returns-then-n-eq0 : goal.returns-then-n-eq0
 returns-then-n-eq0 c =
     let s = c.args.self.now in
-    suit-end (row s) c.args.object.now c.if-n-self.false c.if-not-all-within.ensures c.if-self.true c.if-n-eq0.true
+    suit-end (row s) c.args.object.now c.if-n-self.false c.if-not-all_within.ensures c.if-self.true c.if-n-eq0.true

@@ -22,7 +22,7 @@ decimal-at-requires c =
 
 pub returns : goal.returns
 returns c =
-    let same = sym (front_bytes c.args.n c.args.bytes.now (All-from_get_or (λ d. d < 256) c.args.bytes.now 0 (λ i h. (c.type-inv.bytes i).fits))) in
+    let same = sym (front_bytes c.args.n c.args.bytes.now (All-from_get_or (λ d. d < 256) c.args.bytes.now 0 (λ i h. (c.ok.bytes i).fits))) in
     let here = subst (λ gs. c.args.i < length (said (unpacked_integer gs))) same c.requires.here in
     let says = integer-said (take c.args.n c.args.bytes.now) c.args.i here in
     c.decimal-at.ensures ∙ ap (λ x. get_or x c.args.i 0) (ap decimal c.number-of.ensures ∙ sym says.1 ∙ ap (λ gs. said (unpacked_integer gs)) (sym same))

@@ -9,5 +9,5 @@ value-of-requires c = let p = integer-parts c.args.object.now c.requires in reco
 pub returns : goal.returns
 returns c =
     let p = integer-parts c.args.object.now c.requires in
-    let same = c.digits-in.ensures.value ∙ ap (λ v. length (digits_of 256 v)) c.value-of.ensures in
+    let same = c.digits_in.ensures.value ∙ ap (λ v. length (digits_of 256 v)) c.value_of.ensures in
     record { value = same; bound = omega (arith, same, p.0, integer-under_numeric c.args.object.now p.2) }
