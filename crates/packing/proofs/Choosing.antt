@@ -1,5 +1,5 @@
 -- The first permitted code, as tests find it; and the laws of the table, of what was chosen and packed.
-use Rattle.std.proofs.Common.{◌≡◌, ℕ, ◌<◌, ◌≤◌, Bool, true, false, cond, List, length, take, drop, Ok, Err, Result, sym, refl, ap, ◌∙◌, subst, arith}
+use Rattle.std.proofs.Common.{◌≡◌, ℕ, ◌<◌, ◌≤◌, Bool, true, false, cond, List, length, take, drop, Ok, Err, Result, sym, refl, ap, ◌∙◌, arith}
 use mathlib.Core.Path.{transport}
 use Rattle.std.specs.Int.Digits.{AllBelowBase}
 use Rattle.std.proofs.lemmas.List.{take_at}

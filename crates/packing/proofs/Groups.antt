@@ -1,9 +1,9 @@
 -- Groups by their places: what the code's arithmetic comes to.
-use Rattle.std.proofs.Common.{◌≡◌, ℕ, zero, suc, ◌+◌, ◌-◌, ◌*◌, ◌/◌, ◌%◌, ◌^◌, ◌<◌, ◌≤◌, List, [], ◌∷◌, ◌++◌, length, get_or, take, sym, refl, ap, ◌∙◌, subst, le_trans, mul-le-mul_right, mod-lt, suc-mul, mul_comm, add-mul, mul-le-mul_left, one-mul, div-add-mod', div-mul-le_self, arith, pow_mono}
+use Rattle.std.proofs.Common.{◌≡◌, ℕ, zero, suc, ◌+◌, ◌-◌, ◌*◌, ◌/◌, ◌%◌, ◌^◌, ◌<◌, ◌≤◌, List, [], ◌∷◌, ◌++◌, length, get_or, sym, refl, ap, ◌∙◌, subst, mul-le-mul_right, mod-lt, add-mul, mul-le-mul_left, one-mul, div-add-mod', div-mul-le_self, arith, pow_mono}
 use Rattle.std.specs.Int.Digits.{AllBelowBase}
 use Rattle.std.proofs.lemmas.List.{get_or-append_right}
-use Rattle.std.proofs.lemmas.Nat.{shl_whole, shl_below, one_shl, div_below}
-use Rattle.codes.specs.Bits.{packed, bytes_for, spread, groups}
+use Rattle.std.proofs.lemmas.Nat.{shl_whole, shl_below, div_below}
+use Rattle.codes.specs.Bits.{packed, bytes_for}
 use Rattle.codes.specs.Table.{whole}
 use Rattle.codes.proofs.BitLaws.{length-packed}
 use Rattle.codes.proofs.Cuts.{three, cut_at, packed-cut}

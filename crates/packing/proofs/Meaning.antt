@@ -1,9 +1,9 @@
 -- What bytes say, from what their groups mean.
-use Rattle.std.proofs.Common.{◌≡◌, ℕ, suc, ◌+◌, ◌-◌, ◌*◌, ◌/◌, ◌%◌, ◌^◌, ◌<◌, ◌≤◌, Bool, true, false, cond, ◌&&◌, eqb, leb, ◌⊎◌, List, [], ◌∷◌, ◌++◌, length, get_or, take, drop, set, Ok, Err, Result, sym, refl, ap, ◌∙◌, subst, inl, inr, ⊎_elim, mod-lt, mod-eq_of_lt, div-add-mod', arith}
+use Rattle.std.proofs.Common.{◌≡◌, ℕ, suc, ◌+◌, ◌-◌, ◌*◌, ◌/◌, ◌%◌, ◌^◌, ◌<◌, ◌≤◌, Bool, true, false, ◌&&◌, eqb, leb, List, [], ◌∷◌, ◌++◌, length, get_or, take, drop, set, Ok, Err, Result, sym, refl, ap, ◌∙◌, subst, ⊎_elim, mod-lt, mod-eq_of_lt, div-add-mod', arith}
 use mathlib.Core.Path.{transport}
-use Rattle.std.proofs.lemmas.List.{take_all, drop_all, drop-drop, get_or_default, take_more, take_more_set, drop-set-lt, drop_more, length-set, take-append-drop}
+use Rattle.std.proofs.lemmas.List.{take_all, drop_all, drop-drop, get_or_default, take_more, take_more_set, drop-set-lt, length-set, take-append-drop}
 use Rattle.std.proofs.lemmas.Bool.{cases_lt, eq-eqb, ne_eqb, le-leb, lt-leb, and_from, and_left, and_right, cond-true, cond-false}
-use Rattle.codes.specs.Bits.{bits, val, spread, groups, ends, trimmed}
+use Rattle.codes.specs.Bits.{bits, val, spread, ends, trimmed}
 use Rattle.codes.specs.Table.{whole, behind, remaining, pad_behind}
 use Rattle.codes.specs.declared.fault.Fault.{Fault}
 use Rattle.codes.specs.declared.fault.Fault.TheVariants.{NoPadding}

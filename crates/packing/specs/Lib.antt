@@ -2,3 +2,4 @@ pub mod Packing
 pub mod Coded
 pub mod Widths
 pub mod Plain
+pub mod Rows

@@ -1,5 +1,5 @@
 -- What packing and unpacking answer, and what they leave in the output.
-use Rattle.std.specs.Prelude.{◌≡◌, ℕ, ◌<◌, ◌≤◌, true, false, ◌⊎◌, List, [], ◌++◌, length, take, drop, Ok, Err, Result}
+use Rattle.std.specs.Prelude.{◌≡◌, ℕ, ◌<◌, ◌≤◌, true, false, List, [], ◌++◌, length, take, drop, Ok, Err, Result}
 use Rattle.std.specs.Int.Digits.{AllBelowBase}
 use Rattle.codes.specs.declared.fault.Fault.{Fault}
 use Rattle.codes.specs.Table.{code, permitted, packed_code, unpacked_code, first_code}

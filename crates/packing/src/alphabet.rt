@@ -3,7 +3,7 @@ ghost use Rattle.std.specs.Prelude.{◌≡◌, true};
 ghost use Rattle.codes.specs.Table.{within, low_bits, letter};
 ghost use Rattle.packing.specs.Coded.{is_alphabet, lettered};
 ghost use Rattle.packing.specs.Widths.{width_code};
-ghost use Rattle.std.proofs.Common.{rules, arith};
+ghost use Rattle.packing.specs.Rows.{listed as row_of, row_sized, row_packs, row_unpacks};
 
 use super::{Code, all_within, group_of};
 use codes::Fault;
@@ -96,11 +96,11 @@ impl Code for Alphabet {
 
     ghost meant = { λ c gs. lettered c.width c.first c.last gs };
 
-    ghost sized = { first_of (Prim.search rules, Prim.grind (arith, Self.row.coded.inj)) };
+    ghost sized = { λ c. row_sized (row_of c.code c.width c.padding c.least c.first c.last c.blank c.ok) };
 
-    ghost packs = { first_of (Prim.search rules, Prim.grind (arith, Self.row.coded.inj)) };
+    ghost packs = { λ c x h u. row_packs (row_of c.code c.width c.padding c.least c.first c.last c.blank c.ok) x };
 
-    ghost unpacks = { first_of (Prim.search rules, Prim.grind (arith, Self.row.coded.inj)) };
+    ghost unpacks = { λ c bs u. row_unpacks (row_of c.code c.width c.padding c.least c.first c.last c.blank c.ok) bs };
 
     fn width(&self) -> u32 {
         self.width

@@ -1,6 +1,6 @@
-use Rattle.std.proofs.Common.{◌≡◌, ◌+◌, ◌-◌, ◌*◌, ◌/◌, ◌%◌, ◌^◌, ◌<◌, ◌≤◌, eqb, length, get_or, sym, ap, ◌∙◌, subst, arith}
-use Rattle.std.proofs.lemmas.Nat.{one_shl, pow_pos, mod_below}
-use Rattle.packing.proofs.Meaning.{some_bytes, pads_none, pads_some}
+use Rattle.std.proofs.Common.{◌-◌, ◌*◌, ◌/◌, ◌%◌, ◌^◌, ◌<◌, eqb, length, sym, ◌∙◌, subst, arith}
+use Rattle.std.proofs.lemmas.Nat.{one_shl, mod_below}
+use Rattle.packing.proofs.Meaning.{pads_none, pads_some}
 use Rattle.packing.proofs.ends_padded.Goals as goal
 
 pub returns-then-bit-eq0 : goal.returns-then-bit-eq0

@@ -1,4 +1,4 @@
-use Rattle.std.proofs.Common.{◌≡◌, ◌+◌, ◌-◌, ◌*◌, ◌/◌, ◌%◌, ◌^◌, ◌<◌, length, sym, ap, ◌∙◌, arith}
+use Rattle.std.proofs.Common.{◌+◌, ◌-◌, ◌/◌, ◌%◌, ◌^◌, ◌<◌, length, ◌∙◌, arith}
 use Rattle.std.proofs.ByRecursion.{All-from_get_or}
 use Rattle.codes.proofs.Cuts.{three}
 use Rattle.packing.proofs.Groups.{group-fits, group-is}
@@ -7,11 +7,11 @@ use Rattle.packing.proofs.group_of.Goals as goal
 pub begins-from-requires : goal.begins-from-requires
 begins-from-requires c = record { widths = (omega arith, omega arith, omega arith, omega arith); fits = omega (arith, group-fits c.args.i (length c.args.bytes.now) c.args.width (omega arith) c.requires.inside (omega arith)) }
 
-pub overflow-add-k : goal.overflow-add-k
-overflow-add-k c = record { fits = omega (arith, c.begins-from.ensures.group, group-fits c.args.i (length c.args.bytes.now) c.args.width (omega arith) c.requires.inside (omega arith)) }
+pub overflow_add-k : goal.overflow_add-k
+overflow_add-k c = record { fits = omega (arith, c.begins-from.ensures.group, group-fits c.args.i (length c.args.bytes.now) c.args.width (omega arith) c.requires.inside (omega arith)) }
 
-pub overflow-add-k-2 : goal.overflow-add-k-2
-overflow-add-k-2 c = record { fits = omega (arith, c.begins-from.ensures.group, group-fits c.args.i (length c.args.bytes.now) c.args.width (omega arith) c.requires.inside (omega arith)) }
+pub overflow_add-k-2 : goal.overflow_add-k-2
+overflow_add-k-2 c = record { fits = omega (arith, c.begins-from.ensures.group, group-fits c.args.i (length c.args.bytes.now) c.args.width (omega arith) c.requires.inside (omega arith)) }
 
 pub returns : goal.returns
 returns c =
@@ -19,4 +19,4 @@ returns c =
     let bs = c.args.bytes.now in
     let s = c.begins-from.result.bit in
     c.cut.ensures ∙ (λ j. three 8 (c.byte_or_zero-a.ensures j) (c.byte_or_zero-b.ensures j) (c.byte_or_zero-c.ensures j) / 2 ^ (8 + 8 + 8 - s - w) % 2 ^ w)
-    ∙ group-is w c.args.i bs c.begins-from.result.group s (omega arith) (omega arith) (All-from_get_or (λ d. d < 256) c.args.bytes.now 0 (λ i h. (c.type-inv.bytes i).fits)) c.requires.inside c.begins-from.ensures.group c.begins-from.ensures.bit
+    ∙ group-is w c.args.i bs c.begins-from.result.group s (omega arith) (omega arith) (All-from_get_or (λ d. d < 256) c.args.bytes.now 0 (λ i h. (c.type_inv.bytes i).fits)) c.requires.inside c.begins-from.ensures.group c.begins-from.ensures.bit

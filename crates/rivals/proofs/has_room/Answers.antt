@@ -5,7 +5,7 @@ use Rattle.rivals.proofs.has_room.Goals as goal
 
 pub returns : goal.returns
 returns c = record {
-  value = ap (leb c.args.need) c.gap-bytes.ensures.value;
+  value = ap (leb c.args.need) c.gap_bytes.ensures.value;
   room = room;
   none = no_room;
   put = no_room-to-put;

@@ -8,5 +8,5 @@ returns-in-Bare c = puts_as c.args.at [] _ c.args.out.now c.args.out.now c.args.
 
 pub returns-in-Led : goal.returns-in-Led
 returns-in-Led c =
-    puts_as c.args.at _ _ c.args.out.now c.put-run.new.out c.put-run.result (ap name_bytes (sym c.in-Led.ensures))
-    (puts_then c.args.at c.put-byte-next.result c.put-run.result ((0x7f + length c.args.identifier.now) ∷ []) c.args.identifier.now c.args.out.now c.put-byte-next.new.out c.put-run.new.out c.put-byte-next.ensures c.put-run.ensures)
+    puts_as c.args.at _ _ c.args.out.now c.put_run.new.out c.put_run.result (ap name_bytes (sym c.in-Led.ensures))
+    (puts_then c.args.at c.put_byte-next.result c.put_run.result ((0x7f + length c.args.identifier.now) ∷ []) c.args.identifier.now c.args.out.now c.put_byte-next.new.out c.put_run.new.out c.put_byte-next.ensures c.put_run.ensures)

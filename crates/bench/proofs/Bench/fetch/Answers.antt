@@ -5,8 +5,8 @@ use Rattle.bench.specs.Means.{bench_fits}
 use Rattle.bench.proofs.Steps.{room, inside}
 use Rattle.bench.proofs.Bench.fetch.Goals as goal
 
-pub slice-bounds-copy-from-slice-end : goal.slice-bounds-copy-from-slice-end
-slice-bounds-copy-from-slice-end c =
+pub slice_bounds-copy_from_slice-end : goal.slice_bounds-copy_from_slice-end
+slice_bounds-copy_from_slice-end c =
     let s = c.args.self.now in
     let e = inside s.shape.count s.shape.size s.memory.now s.locks.now c.args.k c.shape-shape.result.size (omega (arith, c.shape-shape.ensures.value.0)) c.shape-shape.ensures.value.1 in
     search rules
@@ -22,5 +22,5 @@ returns c =
     let b = held (bench_fits s) s.shape.size in
     let v = c.shape-shape.ensures.value in
     let h : k < n = omega (arith, v.0) in
-    let w = laid-read n b s.system m l k h (room s.shape.count s.shape.size m l) c.args.out.now c.copy-from-slice.new.self (k * z) (k * z + z - k * z) (omega (arith, v.1)) c.copy-from-slice.ensures.after (ap (λ j. k * j) v.1) (omega (arith, v.1)) in
+    let w = laid-read n b s.system m l k h (room s.shape.count s.shape.size m l) c.args.out.now c.copy_from_slice.new.self (k * z) (k * z + z - k * z) (omega (arith, v.1)) c.copy_from_slice.ensures.after (ap (λ j. k * j) v.1) (omega (arith, v.1)) in
     record { answer = w.0; after = w.1 }

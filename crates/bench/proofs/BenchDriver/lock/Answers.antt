@@ -18,7 +18,7 @@ returns c =
     let w = laid_lock n b s.system m l k h (room s.shape.count s.shape.size m l) in
     record {
       answer = w.0;
-      after = ap (λ q. bench_tag (record { shape = s.shape; system = s.system; memory = s.memory; locks = set_vals q s.locks })) c.set-flag.ensures.after
+      after = ap (λ q. bench_tag (record { shape = s.shape; system = s.system; memory = s.memory; locks = set_vals q s.locks })) c.set_flag.ensures.after
           ∙ as_long s.shape.count s.shape.size m l s.system m (set l k true) refl (length-set l k true)
           ∙ w.1;
     }

@@ -10,13 +10,13 @@ loop-k-preserved g c =
     let h : k < t.count = omega (arith, c.requires.shape.0) in
     c.write.ensures.after ∙ erases_more t (g.D.Driver.shaped d) k h (c.requires.unlocked k h) (g.D.Driver.tag c.loop-k.d) c.loop-k.invariant _ (zeros-are c.args.shape.size t.size c.requires.small c.requires.shape.1)
 
-pub returns-in-err-write : goal.returns-in-err-write
-returns-in-err-write g c =
+pub returns-in_err-write : goal.returns-in_err-write
+returns-in_err-write g c =
     let d = c.args.d.now in
     let t = g.D.Driver.tag d in
     let k = c.loop-k.k in
     let h : k < t.count = omega (arith, c.requires.shape.0) in
-    absurd (erases t (g.D.Driver.shaped d) k h (c.requires.unlocked k h) (g.D.Driver.tag c.loop-k.d) c.loop-k.invariant _ (zeros-are c.args.shape.size t.size c.requires.small c.requires.shape.1) _ c.in-err-write.ensures.answer)
+    absurd (erases t (g.D.Driver.shaped d) k h (c.requires.unlocked k h) (g.D.Driver.tag c.loop-k.d) c.loop-k.invariant _ (zeros-are c.args.shape.size t.size c.requires.small c.requires.shape.1) _ c.in_err-write.ensures.answer)
 
 pub returns : goal.returns
 returns g c =

@@ -10,43 +10,43 @@ use Rattle.calls.proofs.Firsts.{declined}
 use Rattle.calls.proofs.Taking.{stands_at, not_proper, not_there, named-is, by-output, put_same}
 use Rattle.calls.proofs.reads.take_object.Goals as goal
 
-pub returns-in-err-check-identifier : goal.returns-in-err-check-identifier
-returns-in-err-check-identifier c =
+pub returns-in_err-check_identifier : goal.returns-in_err-check_identifier
+returns-in_err-check_identifier c =
     let n = c.args.identifier.now in
     let fs = found c.args.image.now in
     let old = c.args.output.now in
-    let p = err_from_is_err_and c.from-residual.result c.from-residual.ensures.1 in
-    let h = not_proper n fs (length old) _ c.in-err-check-identifier.ensures.answer in
+    let p = err_from_is_err_and c.from_residual.result c.from_residual.ensures.1 in
+    let h = not_proper n fs (length old) _ c.in_err-check_identifier.ensures.answer in
     record {
-      answer = declined (take_rows n fs (length old)) (Takes n fs) c.from-residual.result p.0 _ p.1 p.2 h;
+      answer = declined (take_rows n fs (length old)) (Takes n fs) c.from_residual.result p.0 _ p.1 p.2 h;
       after = ap (λ o. put_out o (object_named n fs) old) (sym h);
     }
 
-pub returns-in-default : goal.returns-in-default
-returns-in-default c =
+pub returns-in_default : goal.returns-in_default
+returns-in_default c =
     let n = c.args.identifier.now in
     let fs = found c.args.image.now in
     let old = c.args.output.now in
-    let h = not_there n fs (length old) c.in-ok-check-identifier.ensures.answer.0 (c.in-default.ensures.found c.requires) in
+    let h = not_there n fs (length old) c.in_ok-check_identifier.ensures.answer.0 (c.in_default.ensures.found c.requires) in
     record { answer = h; after = ap (λ o. put_out o (object_named n fs) old) (sym h) }
 
-pub unpack-at-requires : goal.unpack-at-requires
-unpack-at-requires c = ap shows_set (stands_at c.args.image.now c.args.sets.now c.requires c.in-Some.hit.index c.in-Some.ensures.cases)
+pub unpack_at-requires : goal.unpack_at-requires
+unpack_at-requires c = ap shows_set (stands_at c.args.image.now c.args.sets.now c.requires c.in-Some.hit.index c.in-Some.ensures.cases)
 
-pub returns-in-err-long : goal.returns-in-err-long
-returns-in-err-long c =
+pub returns-in_err-long : goal.returns-in_err-long
+returns-in_err-long c =
     let n = c.args.identifier.now in
     let xs = c.args.image.now in
     let old = c.args.output.now in
     let h = c.in-Some.hit in
-    let e = c.in-ok-check-identifier.ensures.answer.0 in
+    let e = c.in_ok-check_identifier.ensures.answer.0 in
     let is = c.in-Some.ensures.found c.requires in
     let x = object_shown (next unpacked (drop (record_in c.args.sets.now h.index).at xs)) in
     let shown = ap object_shown (stands_at xs c.args.sets.now c.requires h.index c.in-Some.ensures.cases) in
-    let p = err_from_is_err_and c.from-residual-in-err-long.result c.from-residual-in-err-long.ensures.1 in
+    let p = err_from_is_err_and c.from_residual-in_err-long.result c.from_residual-in_err-long.ensures.1 in
     record {
-      answer = declined (take_rows n (found xs) (length old)) (Takes n (found xs)) c.from-residual-in-err-long.result p.0 _ p.1 p.2 (by-output n (found xs) (length old) e h is x shown ∙ c.in-err-long.ensures.answer);
-      after = put_same n (found xs) (length old) e h is x shown old c.unpack-at.new.output c.unpack-at.ensures.after;
+      answer = declined (take_rows n (found xs) (length old)) (Takes n (found xs)) c.from_residual-in_err-long.result p.0 _ p.1 p.2 (by-output n (found xs) (length old) e h is x shown ∙ c.in_err-long.ensures.answer);
+      after = put_same n (found xs) (length old) e h is x shown old c.unpack_at.new.output c.unpack_at.ensures.after;
     }
 
 pub returns : goal.returns
@@ -55,12 +55,12 @@ returns c =
     let xs = c.args.image.now in
     let old = c.args.output.now in
     let h = c.in-Some.hit in
-    let e = c.in-ok-check-identifier.ensures.answer.0 in
+    let e = c.in_ok-check_identifier.ensures.answer.0 in
     let is = c.in-Some.ensures.found c.requires in
     let x = object_shown (next unpacked (drop (record_in c.args.sets.now h.index).at xs)) in
     let shown = ap object_shown (stands_at xs c.args.sets.now c.requires h.index c.in-Some.ensures.cases) in
-    let a = c.in-ok-long.ensures.answer in
+    let a = c.in_ok-long.ensures.answer in
     record {
       answer = (by-output n (found xs) (length old) e h is x shown ∙ a.0, (a.1 ∙ ap length (named-is n (found xs) (length old) e h is x shown), ap occurs_again is));
-      after = put_same n (found xs) (length old) e h is x shown old c.unpack-at.new.output c.unpack-at.ensures.after;
+      after = put_same n (found xs) (length old) e h is x shown old c.unpack_at.new.output c.unpack_at.ensures.after;
     }

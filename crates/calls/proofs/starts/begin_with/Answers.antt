@@ -10,46 +10,46 @@ use Rattle.calls.proofs.Firsts.{declined, unless-some}
 use Rattle.calls.proofs.Beginning.{begins_no_more, untouched, touched, prepared, memory-is, refuses, grants, leaves}
 use Rattle.calls.proofs.starts.begin_with.Goals as goal
 
-pub returns-in-err-here : goal.returns-in-err-here
-returns-in-err-here g c =
+pub returns-in_err-here : goal.returns-in_err-here
+returns-in_err-here g c =
     let t = g.D.Driver.tag c.args.d.now in
     let n = c.args.noted in
     let v = work c.args.image.now c.args.table.now c.args.scratch.now in
     let o = first (start_rows t n (rooms_of v)) in
-    let p = err_from_is_err_and c.from-residual.result c.from-residual.ensures.1 in
-    let h = c.in-err-here.ensures.answer in
+    let p = err_from_is_err_and c.from_residual.result c.from_residual.ensures.1 in
+    let h = c.in_err-here.ensures.answer in
     record {
-      answer = declined (begin_rows t n (rooms_of v)) (Begins t) c.from-residual.result p.0 _ p.1 p.2 (begins_no_more t n (rooms_of v) _ h);
+      answer = declined (begin_rows t n (rooms_of v)) (Begins t) c.from_residual.result p.0 _ p.1 p.2 (begins_no_more t n (rooms_of v) _ h);
       after = (λ i. work ((c.prepare.ensures.image ∙ unless-some o _ v.image (imaged t v.image) h) i) v.table ((c.prepare.ensures.scratch ∙ unless-some o _ v.scratch (zeroed v.scratch) h) i))
           ∙ untouched t n v _ h;
       same = c.prepare.ensures.same;
     }
 
-pub slice-bounds-check-end : goal.slice-bounds-check-end
-slice-bounds-check-end g c =
+pub slice_bounds-check-end : goal.slice_bounds-check-end
+slice_bounds-check-end g c =
     let d = c.args.d.now in
     let t = g.D.Driver.tag d in
     let v = work c.args.image.now c.args.table.now c.args.scratch.now in
-    let here = c.in-ok-here.here in
-    let p = prepared t (g.D.Driver.shaped d) c.args.noted v here c.prepare.new.image c.prepare.new.scratch c.in-ok-here.ensures.answer c.prepare.ensures.image c.prepare.ensures.scratch in
+    let here = c.in_ok-here.here in
+    let p = prepared t (g.D.Driver.shaped d) c.args.noted v here c.prepare.new.image c.prepare.new.scratch c.in_ok-here.ensures.answer c.prepare.ensures.image c.prepare.ensures.scratch in
     let room : here.shape.count * here.shape.size ≤ length c.args.image.now = p.room in
     search rules
 
-pub returns-in-err-tally : goal.returns-in-err-tally
-returns-in-err-tally g c =
+pub returns-in_err-tally : goal.returns-in_err-tally
+returns-in_err-tally g c =
     let d = c.args.d.now in
     let t = g.D.Driver.tag d in
     let n = c.args.noted in
     let v = work c.args.image.now c.args.table.now c.args.scratch.now in
-    let here = c.in-ok-here.here in
-    let p = prepared t (g.D.Driver.shaped d) n v here c.prepare.new.image c.prepare.new.scratch c.in-ok-here.ensures.answer c.prepare.ensures.image c.prepare.ensures.scratch in
-    let locks = c.in-ok-read-locks.ensures.cases ∙ ap (λ (u : Tag). u.locks) c.prepare.ensures.same in
-    let is = memory-is t n v here c.prepare.new.image c.prepare.new.scratch p c.read-locks.new.locks locks in
-    let e = err_from_is_err_and c.from-residual-in-err-tally.result c.from-residual-in-err-tally.ensures.1 in
+    let here = c.in_ok-here.here in
+    let p = prepared t (g.D.Driver.shaped d) n v here c.prepare.new.image c.prepare.new.scratch c.in_ok-here.ensures.answer c.prepare.ensures.image c.prepare.ensures.scratch in
+    let locks = c.in_ok-read_locks.ensures.cases ∙ ap (λ (u : Tag). u.locks) c.prepare.ensures.same in
+    let is = memory-is t n v here c.prepare.new.image c.prepare.new.scratch p c.read_locks.new.locks locks in
+    let e = err_from_is_err_and c.from_residual-in_err-tally.result c.from_residual-in_err-tally.ensures.1 in
     record {
-      answer = declined (begin_rows t n (rooms_of v)) (Begins t) c.from-residual-in-err-tally.result e.0 _ e.1 e.2 (refuses t (g.D.Driver.shaped d) n (rooms_of v) p.none _ is _ c.in-err-tally.ensures.value);
-      after = touched t n v (work c.prepare.new.image c.check.new.table c.prepare.new.scratch) p.none p.read (leaves t (g.D.Driver.shaped d) n (rooms_of v) p.none _ is v.table c.check.new.table refl c.in-err-tally.ensures.after) p.zeros;
-      same = c.read-locks.ensures.same ∙ c.prepare.ensures.same;
+      answer = declined (begin_rows t n (rooms_of v)) (Begins t) c.from_residual-in_err-tally.result e.0 _ e.1 e.2 (refuses t (g.D.Driver.shaped d) n (rooms_of v) p.none _ is _ c.in_err-tally.ensures.value);
+      after = touched t n v (work c.prepare.new.image c.check.new.table c.prepare.new.scratch) p.none p.read (leaves t (g.D.Driver.shaped d) n (rooms_of v) p.none _ is v.table c.check.new.table refl c.in_err-tally.ensures.after) p.zeros;
+      same = c.read_locks.ensures.same ∙ c.prepare.ensures.same;
     }
 
 pub returns : goal.returns
@@ -58,13 +58,13 @@ returns g c =
     let t = g.D.Driver.tag d in
     let n = c.args.noted in
     let v = work c.args.image.now c.args.table.now c.args.scratch.now in
-    let here = c.in-ok-here.here in
-    let p = prepared t (g.D.Driver.shaped d) n v here c.prepare.new.image c.prepare.new.scratch c.in-ok-here.ensures.answer c.prepare.ensures.image c.prepare.ensures.scratch in
-    let locks = c.in-ok-read-locks.ensures.cases ∙ ap (λ (u : Tag). u.locks) c.prepare.ensures.same in
-    let is = memory-is t n v here c.prepare.new.image c.prepare.new.scratch p c.read-locks.new.locks locks in
-    let q = grants t (g.D.Driver.shaped d) n (rooms_of v) p.none _ is c.in-ok-tally.tally c.in-ok-tally.ensures.value in
+    let here = c.in_ok-here.here in
+    let p = prepared t (g.D.Driver.shaped d) n v here c.prepare.new.image c.prepare.new.scratch c.in_ok-here.ensures.answer c.prepare.ensures.image c.prepare.ensures.scratch in
+    let locks = c.in_ok-read_locks.ensures.cases ∙ ap (λ (u : Tag). u.locks) c.prepare.ensures.same in
+    let is = memory-is t n v here c.prepare.new.image c.prepare.new.scratch p c.read_locks.new.locks locks in
+    let q = grants t (g.D.Driver.shaped d) n (rooms_of v) p.none _ is c.in_ok-tally.tally c.in_ok-tally.ensures.value in
     record {
-      answer = (q.0, record { noted = p.told; locks = ap (λ (k : Noted). map nonzero (take k.shape.count c.read-locks.new.locks)) (sym p.told) ∙ locks; tally = q.1 });
-      after = touched t n v (work c.prepare.new.image c.check.new.table c.prepare.new.scratch) p.none p.read (leaves t (g.D.Driver.shaped d) n (rooms_of v) p.none _ is v.table c.check.new.table refl c.in-ok-tally.ensures.after) p.zeros;
-      same = c.read-locks.ensures.same ∙ c.prepare.ensures.same;
+      answer = (q.0, record { noted = p.told; locks = ap (λ (k : Noted). map nonzero (take k.shape.count c.read_locks.new.locks)) (sym p.told) ∙ locks; tally = q.1 });
+      after = touched t n v (work c.prepare.new.image c.check.new.table c.prepare.new.scratch) p.none p.read (leaves t (g.D.Driver.shaped d) n (rooms_of v) p.none _ is v.table c.check.new.table refl c.in_ok-tally.ensures.after) p.zeros;
+      same = c.read_locks.ensures.same ∙ c.prepare.ensures.same;
     }

@@ -9,15 +9,15 @@ loop-k-preserved g c =
     let d = c.args.d.now in
     let t = g.D.Driver.tag d in
     let same = c.loop-k.invariant.1 in
-    let told = lock_told (g.D.Driver.tag c.loop-k.d) c.loop-k.k (omega (arith, ap (λ u. u.count) same)) _ _ c.in-ok-locked.was c.locked.ensures.answer in (
+    let told = lock_told (g.D.Driver.tag c.loop-k.d) c.loop-k.k (omega (arith, ap (λ u. u.count) same)) _ _ c.in_ok-locked.was c.locked.ensures.answer in (
       lock_more c.loop-k.locks t.locks c.loop-k.k _ (omega arith) (omega (arith, (g.D.Driver.shaped d).flags)) c.loop-k.invariant.0
-          (c.lock-byte.ensures.value ∙ rw same at told),
+          (c.lock_byte.ensures.value ∙ rw same at told),
       c.locked.ensures.same ∙ same,
     )
 
-pub returns-in-err-locked : goal.returns-in-err-locked
-returns-in-err-locked g c =
-    absurd (lock_tells (g.D.Driver.tag c.loop-k.d) c.loop-k.k (omega (arith, ap (λ u. u.count) c.loop-k.invariant.1)) _ c.in-err-locked.ensures.answer)
+pub returns-in_err-locked : goal.returns-in_err-locked
+returns-in_err-locked g c =
+    absurd (lock_tells (g.D.Driver.tag c.loop-k.d) c.loop-k.k (omega (arith, ap (λ u. u.count) c.loop-k.invariant.1)) _ c.in_err-locked.ensures.answer)
 
 pub returns : goal.returns
 returns g c =

@@ -5,8 +5,8 @@ use Rattle.drivers.proofs.Granted.{read_ok}
 use Rattle.std.proofs.lemmas.Bool.{le-ltb, cond-false}
 use Rattle.drivers.proofs.wholes.read_all.Goals as goal
 
-pub slice-bounds-read-end : goal.slice-bounds-read-end
-slice-bounds-read-end g c =
+pub slice_bounds-read-end : goal.slice_bounds-read-end
+slice_bounds-read-end g c =
     let e = block-end c.loop-k.k c.shape-shape.result.count c.shape-shape.result.size c.loop-k-test.true in
     search rules
 

@@ -5,8 +5,8 @@ use Rattle.layout.specs.Lays.{wanted}
 use Rattle.layout.proofs.Totals.{blank, least-most, total-take, fit-more, sum_more, unfit_here, all_items, no_size}
 use Rattle.layout.proofs.gaps.measure.Goals as goal
 
-pub overflow-add-sum : goal.overflow-add-sum
-overflow-add-sum c =
+pub overflow_add-sum : goal.overflow_add-sum
+overflow_add-sum c =
     let p = c.in-Ok.ensures in
     record { fits = omega (arith, p.2, least-most (wanted (get_or c.args.items.now c.loop-i.i blank)) (record { identifier = p.0; object = p.1 }), c.loop-i.invariant.2, c.requires) }
 

@@ -14,12 +14,12 @@ pub loop-i-init : goal.loop-i-init
 unfolding laid
 loop-i-init c = puts_none 0 c.args.gap.now (omega arith)
 
-pub write-at-at-requires : goal.write-at-at-requires
-write-at-at-requires c =
+pub write_at-at-requires : goal.write_at-at-requires
+write_at-at-requires c =
     let items = c.args.items.now in
     let i = c.loop-i.i in
     let in' = c.loop-i-test.true in
-    let same = pad-is c.args.items.now c.args.extra c.loop-i.i blank c.loop-i-test.true ∙ sym c.pad-of-pad.ensures in
+    let same = pad-is c.args.items.now c.args.extra c.loop-i.i blank c.loop-i-test.true ∙ sym c.pad_of-pad.ensures in
     record {
       fit = fit_at items c.args.extra i blank in' c.requires.fit;
       few = subst (λ p. p ≤ 256) same (pad-few (map wanted items) c.args.extra i c.requires.few);
@@ -31,9 +31,9 @@ loop-i-preserved c =
     let items = c.args.items.now in
     let i = c.loop-i.i in
     let in' = c.loop-i-test.true in
-    let same = pad-is c.args.items.now c.args.extra c.loop-i.i blank c.loop-i-test.true ∙ sym c.pad-of-pad.ensures in
-    put-more items c.args.extra i blank in' c.loop-i.at c.write-at-at.result c.args.gap.now c.loop-i.gap c.write-at-at.new.gap c.loop-i.invariant
-    (subst (λ p. Puts c.loop-i.at (encode (formed p (wanted (get_or items i blank)))) c.loop-i.gap c.write-at-at.new.gap c.write-at-at.result) (sym same) c.write-at-at.ensures)
+    let same = pad-is c.args.items.now c.args.extra c.loop-i.i blank c.loop-i-test.true ∙ sym c.pad_of-pad.ensures in
+    put-more items c.args.extra i blank in' c.loop-i.at c.write_at-at.result c.args.gap.now c.loop-i.gap c.write_at-at.new.gap c.loop-i.invariant
+    (subst (λ p. Puts c.loop-i.at (encode (formed p (wanted (get_or items i blank)))) c.loop-i.gap c.write_at-at.new.gap c.write_at-at.result) (sym same) c.write_at-at.ensures)
 
 pub returns : goal.returns
 returns c = put_all c.args.items.now c.args.extra c.loop-i.i c.args.gap.now c.loop-i.gap c.loop-i.at (omega arith) c.loop-i.invariant

@@ -2,8 +2,8 @@ use Rattle.std.proofs.Common.{◌≡◌, ◌+◌, ◌*◌, ◌/◌, ◌≤◌, m
 use Rattle.listing.proofs.Filling.{percent-is, nearest, hundred}
 use Rattle.listing.proofs.fills.rounded.Goals as goal
 
-pub overflow-cast-result : goal.overflow-cast-result
-overflow-cast-result c =
+pub overflow_cast-result : goal.overflow_cast-result
+overflow_cast-result c =
     let h = hundred c.min-used.result c.args.total (omega arith) (omega (arith, c.if-total-eq0.false)) in
     search rules
 

@@ -11,5 +11,5 @@ returns c =
     let h = c.in-Ok-read.ensures.cases in
     let all : length c.content-total.result.now ≡ length (content_of c.args.bytes.now) = ap length (c.content-total.ensures.value ∙ h.content) in
     record {
-      made = framed string_bytes c.format-2.result xs (verdict 341 xs) c.in-Ok.tally c.shape-shape.result.count c.shape-shape.result.size c.system.result c.saturating-sub.result (length c.content-total.result.now) (string_bytes c.in-ok-sets.sets) c.format-2.ensures.ok c.in-Ok.ensures.value (c.shape-shape.ensures.value.0 ∙ ap (λ (t : Tag). t.count) h.means) (c.shape-shape.ensures.value.1 ∙ ap (λ (t : Tag). t.size) h.means) (c.system.ensures.value ∙ ap (λ (t : Tag). t.system) h.means) (c.saturating-sub.ensures ∙ ap (λ k. k - c.in-Ok.tally.free) all) all;
+      made = framed string_bytes c.format-2.result xs (verdict 341 xs) c.in-Ok.tally c.shape-shape.result.count c.shape-shape.result.size c.system.result c.saturating_sub.result (length c.content-total.result.now) (string_bytes c.in_ok-sets.sets) c.format-2.ensures.ok c.in-Ok.ensures.value (c.shape-shape.ensures.value.0 ∙ ap (λ (t : Tag). t.count) h.means) (c.shape-shape.ensures.value.1 ∙ ap (λ (t : Tag). t.size) h.means) (c.system.ensures.value ∙ ap (λ (t : Tag). t.system) h.means) (c.saturating_sub.ensures ∙ ap (λ k. k - c.in-Ok.tally.free) all) all;
     }

@@ -7,7 +7,7 @@ pub returns : goal.returns
 returns g c =
     let f = g.T.Turn.turned in
     let t = g.D.Driver.tag c.args.self.now.lower in
-    let ok = sym c.in-ok-read.was ∙ c.read.ensures.answer in
+    let ok = sym c.in_ok-read.was ∙ c.read.ensures.answer in
     record {
       answer = ok;
       after = c.turn.ensures.after ∙ ap f c.read.ensures.after ∙ turn_read f g.T.Turn.long g.T.Turn.twice t c.args.k c.args.out.now (sym ok);

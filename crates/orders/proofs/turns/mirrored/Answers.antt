@@ -7,4 +7,4 @@ pub returns : goal.returns
 unfolding reverse_bits_onto
 returns c =
     let byte : c.args.byte < 256 = search rules in
-    record { value = c.reverse-bits.ensures ∙ sym (cond-true _ _ _ (lt-ltb c.args.byte 256 byte)) }
+    record { value = c.reverse_bits.ensures ∙ sym (cond-true _ _ _ (lt-ltb c.args.byte 256 byte)) }

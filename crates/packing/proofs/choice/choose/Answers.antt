@@ -1,4 +1,4 @@
-use Rattle.std.proofs.Common.{◌≡◌, sym, ap, ◌∙◌}
+use Rattle.std.proofs.Common.{sym, ap, ◌∙◌}
 use Rattle.codes.specs.Table.{first_code}
 use Rattle.codes.specs.Numbers.{code_number, kind_number}
 use Rattle.packing.proofs.Choosing.{first_0, first_7, shortest_by}

@@ -1,4 +1,4 @@
-use Rattle.std.proofs.Common.{◌≡◌, true, false, sym, ◌∙◌}
+use Rattle.std.proofs.Common.{true, false, sym, ◌∙◌}
 use Rattle.packing.proofs.Choosing.{tested, first_1, first-2, first-3, first-4, first-5, first-6}
 use Rattle.packing.proofs.choice.choose_compact.Goals as goal
 

@@ -1,4 +1,4 @@
-use Rattle.std.proofs.Common.{◌≡◌, Ok, subst}
+use Rattle.std.proofs.Common.{Ok, subst}
 use Rattle.codes.specs.Numbers.{kind_number}
 use Rattle.packing.specs.Packing.{Packs}
 use Rattle.packing.proofs.Choosing.{none_by}

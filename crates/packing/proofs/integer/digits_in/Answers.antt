@@ -1,10 +1,10 @@
-use Rattle.std.proofs.Common.{◌≡◌, ◌+◌, ◌^◌, ◌<◌, ◌≤◌, length, sym, ap, ◌∙◌, arith}
+use Rattle.std.proofs.Common.{◌≡◌, length, ap, arith}
 use Rattle.std.specs.Int.Digits.{digits_of}
 use Rattle.packing.proofs.DigitLoops.{cut-lt, at-most_64, counted}
 use Rattle.packing.proofs.integer.digits_in.Goals as goal
 
-pub overflow-add-n : goal.overflow-add-n
-overflow-add-n c = record { fits = omega (arith, at-most_64 c.args.base c.args.number c.requires (omega arith), c.loop-v.invariant) }
+pub overflow_add-n : goal.overflow_add-n
+overflow_add-n c = record { fits = omega (arith, at-most_64 c.args.base c.args.number c.requires (omega arith), c.loop-v.invariant) }
 
 pub loop-v-smaller : goal.loop-v-smaller
 loop-v-smaller c = cut-lt c.args.base c.loop-v.v c.requires c.loop-v-test.true

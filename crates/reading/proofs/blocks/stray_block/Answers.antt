@@ -9,8 +9,8 @@ use Rattle.reading.proofs.blocks.stray_block.Goals.{then-all-locked+in-default, 
 pub loop-set-init : goal.loop-set-init
 loop-set-init c = starts c.args.size c.args.locks.now c.args.image.now c.args.sets.now c.requires.all
 
-pub all-locked-requires : goal.all-locked-requires
-all-locked-requires c = record {
+pub all_locked-requires : goal.all_locked-requires
+all_locked-requires c = record {
   blocks = c.requires.blocks;
   fits = omega (arith, turn-fits c.args.size c.args.locks.now c.args.image.now c.args.sets.now c.requires.all c.loop-set.set-index c.loop-set.from c.loop-set.invariant c.loop-set-test.true);
 }
@@ -20,8 +20,8 @@ returns-in-Some c = record {
   value = turn-met c.args.size c.args.locks.now c.args.image.now c.args.sets.now c.requires.all c.loop-set.set-index c.loop-set.from c.loop-set.invariant c.loop-set-test.true c.in-Some.at c.in-Some.ensures.cases;
 }
 
-pub overflow-add-from : goal.overflow-add-from
-overflow-add-from c =
+pub overflow_add-from : goal.overflow_add-from
+overflow_add-from c =
     let h = turn-fits c.args.size c.args.locks.now c.args.image.now c.args.sets.now c.requires.all c.loop-set.set-index c.loop-set.from c.loop-set.invariant c.loop-set-test.true in
     search rules
 
@@ -33,11 +33,11 @@ loop-set-preserved c =
     let rs = c.args.sets.now in
     let j = c.loop-set.set-index in
     let S = Swept (memory b locks xs) (found xs) (j + 1) in
-    elim c.if-all-locked.branch [ then-all-locked+in-default w ↦ subst S (sym w.from-is) (turn-went b locks xs rs c.requires.all j c.loop-set.from c.loop-set.invariant c.loop-set-test.true (sym w.if-all-locked.ensures.value) w.in-default.ensures.cases) | else-all-locked w ↦ subst S (sym w.from-is) (turn-passed b locks xs rs c.requires.all j c.loop-set.from c.loop-set.invariant c.loop-set-test.true (sym w.if-all-locked.ensures.value)) ]
+    elim c.if-all_locked.branch [ then-all-locked+in-default w ↦ subst S (sym w.from-is) (turn-went b locks xs rs c.requires.all j c.loop-set.from c.loop-set.invariant c.loop-set-test.true (sym w.if-all_locked.ensures.value) w.in_default.ensures.cases) | else-all-locked w ↦ subst S (sym w.from-is) (turn-passed b locks xs rs c.requires.all j c.loop-set.from c.loop-set.invariant c.loop-set-test.true (sym w.if-all_locked.ensures.value)) ]
 
-pub returns-in-Some-first-locked : goal.returns-in-Some-first-locked
-returns-in-Some-first-locked c = record {
-  value = end-met c.args.size c.args.locks.now c.args.image.now c.args.sets.now c.requires.all c.loop-set.set-index c.loop-set.from c.loop-set.invariant c.in-Some-first-locked.at c.loop-set-test.false c.in-Some-first-locked.ensures.cases;
+pub returns-in-Some-first_locked : goal.returns-in-Some-first_locked
+returns-in-Some-first_locked c = record {
+  value = end-met c.args.size c.args.locks.now c.args.image.now c.args.sets.now c.requires.all c.loop-set.set-index c.loop-set.from c.loop-set.invariant c.in-Some-first_locked.at c.loop-set-test.false c.in-Some-first_locked.ensures.cases;
 }
 
 pub returns-in-None : goal.returns-in-None

@@ -18,8 +18,8 @@ returns-in-Err-unpack c =
       cases = no_entry c.args.size c.args.locks.now xs c.args.at v stands c.args.scratch.now c.unpack.new.out c.in-Err-unpack.field-0 (code_number c.in-Some.code) c.in-Some.ensures c.in-Err-unpack.ensures;
     }
 
-pub slice-bounds-result-end : goal.slice-bounds-result-end
-slice-bounds-result-end c =
+pub slice_bounds-result-end : goal.slice_bounds-result-end
+slice_bounds-result-end c =
     let xs = c.args.image.now in
     let v = c.in-Set.set in
     let stands : tile (holds (set_of v)) ≡ next unpacked (drop c.args.at xs) = ap (λ s. told (Ok s)) (sym c.in-Set.is) ∙ c.in-Ok.ensures.value in
@@ -42,7 +42,7 @@ returns c =
           place = shown.place;
           identifier = refl;
           object = ap (λ n. take n c.unpack.new.out) (omega arith) ∙ object-is c.args.size c.args.locks.now xs at v stands c.args.scratch.now c.unpack.new.out (code_number c.in-Some.code) c.in-Ok-unpack.long c.in-Some.ensures c.in-Ok-unpack.ensures;
-          sealed = sealed-is c.args.size c.args.locks.now xs at v stands (map nonzero c.args.locks.now) c.all-locked.result shown.place c.all-locked.ensures.value;
+          sealed = sealed-is c.args.size c.args.locks.now xs at v stands (map nonzero c.args.locks.now) c.all_locked.result shown.place c.all_locked.ensures.value;
         },
       );
     }

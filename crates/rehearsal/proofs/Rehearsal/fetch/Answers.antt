@@ -19,8 +19,8 @@ returns-then-fetch c =
     let w = under-read t s.table s.system k h out c.fetch.new.out long (under-fetched t s.table s.system k h out c.fetch.new.out c.fetch.result long c.fetch.ensures.answer c.fetch.ensures.after c.if-fetch.true) in
     record { answer = w.0; after = w.1 }
 
-pub slice-bounds-copy-from-slice-end : goal.slice-bounds-copy-from-slice-end
-slice-bounds-copy-from-slice-end c =
+pub slice_bounds-copy_from_slice-end : goal.slice_bounds-copy_from_slice-end
+slice_bounds-copy_from_slice-end c =
     let s = c.args.self.now in
     let k = c.args.k in
     let t = dump_means s.dump in
@@ -46,8 +46,8 @@ returns c =
     let e : z ≡ t.size = v.1 ∙ same_size t s.table s.system k h in
     let below = (held_below (has_room t.count t.size) k t.count h).1 in
     let part : k * z + z - k * z ≡ t.size = omega (arith, e) in
-    let got = c.copy-from-slice.ensures.after
+    let got = c.copy_from_slice.ensures.after
     ∙ (λ i. take (part i) (drop (k * e i) (c.content.ensures.value i)))
     ∙ sym (dump_block s.dump k below) in
-    let w = under-read t s.table s.system k h out c.copy-from-slice.new.self long (under-own t s.table s.system k h out c.copy-from-slice.new.self c.fetch.result long c.fetch.ensures.answer c.if-fetch.false got) in
+    let w = under-read t s.table s.system k h out c.copy_from_slice.new.self long (under-own t s.table s.system k h out c.copy_from_slice.new.self c.fetch.result long c.fetch.ensures.answer c.if-fetch.false got) in
     record { answer = w.0; after = w.1 }

@@ -23,12 +23,12 @@ returns-then-image-at-eq0-2 c = record {
   cases = tt;
 }
 
-pub returns-in-err-set : goal.returns-in-err-set
-returns-in-err-set c =
-    let p = err_from_is_err_and c.from-residual.result c.from-residual.ensures.1 in
+pub returns-in_err-set : goal.returns-in_err-set
+returns-in_err-set c =
+    let p = err_from_is_err_and c.from_residual.result c.from_residual.ensures.1 in
     let e = p.1 ∙ ap Err p.2 in
     record {
-      value = ap framed e ∙ c.in-err-set.ensures.value ∙ sym (step_set c.args.image.now c.args.at (omega arith) (omega arith));
+      value = ap framed e ∙ c.in_err-set.ensures.value ∙ sym (step_set c.args.image.now c.args.at (omega arith) (omega arith));
       cases = subst (Frames c.args.at) (sym e) tt;
     }
 
@@ -36,6 +36,6 @@ pub returns : goal.returns
 returns c =
     let xs = c.args.image.now in
     record {
-      value = c.in-ok-set.ensures.value ∙ sym (step_set xs c.args.at (omega arith) (omega arith));
-      cases = c.in-ok-set.ensures.cases;
+      value = c.in_ok-set.ensures.value ∙ sym (step_set xs c.args.at (omega arith) (omega arith));
+      cases = c.in_ok-set.ensures.cases;
     }

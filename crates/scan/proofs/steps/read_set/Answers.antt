@@ -10,41 +10,41 @@ use Rattle.sets.proofs.Bodies.{body_on, body-bad, name-next, name-bad, length-ba
 use Rattle.scan.proofs.Records.{part-fits, record_is}
 use Rattle.scan.proofs.steps.read_set.Goals as goal
 
-pub returns-in-err-offset : goal.returns-in-err-offset
-returns-in-err-offset c =
+pub returns-in_err-offset : goal.returns-in_err-offset
+returns-in_err-offset c =
     let xs = c.args.image.now in
     let first = get_or xs c.args.at 0 in
-    let p = err_from_is_err_and c.from-residual.result c.from-residual.ensures.1 in
+    let p = err_from_is_err_and c.from_residual.result c.from_residual.ensures.1 in
     let e = p.1 ∙ ap Err p.2 in
     record {
-      value = ap viewed e ∙ ap told (sym (body-bad first _ (drop (c.args.at + 1) xs) c.in-err-offset.ensures.value));
+      value = ap viewed e ∙ ap told (sym (body-bad first _ (drop (c.args.at + 1) xs) c.in_err-offset.ensures.value));
       cases = subst (Views c.args.at) (sym e) tt;
     }
 
-pub returns-in-err-id : goal.returns-in-err-id
-returns-in-err-id c =
+pub returns-in_err-id : goal.returns-in_err-id
+returns-in_err-id c =
     let xs = c.args.image.now in
     let first = get_or xs c.args.at 0 in
-    let o = c.in-ok-offset.offset in
-    let p = err_from_is_err_and c.from-residual-in-err-id.result c.from-residual-in-err-id.ensures.1 in
+    let o = c.in_ok-offset.offset in
+    let p = err_from_is_err_and c.from_residual-in_err-id.result c.from_residual-in_err-id.ensures.1 in
     let e = p.1 ∙ ap Err p.2 in
     record {
-      value = ap viewed e ∙ ap told (sym (body_on first o.value (drop (c.args.at + 1) xs) (drop o.next xs) c.in-ok-offset.ensures.value ∙ name-bad first o.value _ (drop o.next xs) c.in-err-id.ensures.value));
+      value = ap viewed e ∙ ap told (sym (body_on first o.value (drop (c.args.at + 1) xs) (drop o.next xs) c.in_ok-offset.ensures.value ∙ name-bad first o.value _ (drop o.next xs) c.in_err-id.ensures.value));
       cases = subst (Views c.args.at) (sym e) tt;
     }
 
-pub returns-in-err-long : goal.returns-in-err-long
-returns-in-err-long c =
+pub returns-in_err-long : goal.returns-in_err-long
+returns-in_err-long c =
     let xs = c.args.image.now in
     let first = get_or xs c.args.at 0 in
-    let o = c.in-ok-offset.offset in
-    let n = name_of c.in-ok-id.id.name in
-    let b = c.in-ok-id.id.next in
-    let p = err_from_is_err_and c.from-residual-in-err-long.result c.from-residual-in-err-long.ensures.1 in
+    let o = c.in_ok-offset.offset in
+    let n = name_of c.in_ok-id.id.name in
+    let b = c.in_ok-id.id.next in
+    let p = err_from_is_err_and c.from_residual-in_err-long.result c.from_residual-in_err-long.ensures.1 in
     let e = p.1 ∙ ap Err p.2 in
     record {
       value =
-          ap viewed e ∙ ap told (sym (body_on first o.value (drop (c.args.at + 1) xs) (drop o.next xs) c.in-ok-offset.ensures.value ∙ name-next first o.value n (drop o.next xs) (drop b xs) c.in-ok-id.ensures.value ∙ length-bad first o.value n _ (drop b xs) c.in-err-long.ensures.value));
+          ap viewed e ∙ ap told (sym (body_on first o.value (drop (c.args.at + 1) xs) (drop o.next xs) c.in_ok-offset.ensures.value ∙ name-next first o.value n (drop o.next xs) (drop b xs) c.in_ok-id.ensures.value ∙ length-bad first o.value n _ (drop b xs) c.in_err-long.ensures.value));
       cases = subst (Views c.args.at) (sym e) tt;
     }
 
@@ -52,9 +52,9 @@ pub returns-then-image-from : goal.returns-then-image-from
 returns-then-image-from c =
     let xs = c.args.image.now in
     let first = get_or xs c.args.at 0 in
-    let k = c.in-ok-long.long in
+    let k = c.in_ok-long.long in
     record {
-      value = ap told (sym (to-object first c.in-ok-offset.offset.value (name_of c.in-ok-id.id.name) k.value (drop (c.args.at + 1) xs) (drop c.in-ok-offset.offset.next xs) (drop c.in-ok-id.id.next xs) (drop k.next xs) c.in-ok-offset.ensures.value c.in-ok-id.ensures.value c.in-ok-long.ensures.value ∙ object-bad first c.in-ok-offset.offset.value (name_of c.in-ok-id.id.name) k.value xs k.next c.if-image-from.true));
+      value = ap told (sym (to-object first c.in_ok-offset.offset.value (name_of c.in_ok-id.id.name) k.value (drop (c.args.at + 1) xs) (drop c.in_ok-offset.offset.next xs) (drop c.in_ok-id.id.next xs) (drop k.next xs) c.in_ok-offset.ensures.value c.in_ok-id.ensures.value c.in_ok-long.ensures.value ∙ object-bad first c.in_ok-offset.offset.value (name_of c.in_ok-id.id.name) k.value xs k.next c.if-image-from.true));
       cases = tt;
     }
 
@@ -62,44 +62,44 @@ pub returns-then-image-end : goal.returns-then-image-end
 returns-then-image-end c =
     let xs = c.args.image.now in
     let first = get_or xs c.args.at 0 in
-    let e = c.in-ok-offset.offset.value in
-    let n = name_of c.in-ok-id.id.name in
-    let k = c.in-ok-long.long in
+    let e = c.in_ok-offset.offset.value in
+    let n = name_of c.in_ok-id.id.name in
+    let k = c.in_ok-long.long in
     record {
       value =
-          ap told (sym (to-object first c.in-ok-offset.offset.value (name_of c.in-ok-id.id.name) k.value (drop (c.args.at + 1) xs) (drop c.in-ok-offset.offset.next xs) (drop c.in-ok-id.id.next xs) (drop k.next xs) c.in-ok-offset.ensures.value c.in-ok-id.ensures.value c.in-ok-long.ensures.value ∙ object-next first e n k.value xs k.next c.if-image-from.false ∙ pad-bad first e n (take k.value (drop k.next xs)) xs (k.next + k.value) (omega arith)));
+          ap told (sym (to-object first c.in_ok-offset.offset.value (name_of c.in_ok-id.id.name) k.value (drop (c.args.at + 1) xs) (drop c.in_ok-offset.offset.next xs) (drop c.in_ok-id.id.next xs) (drop k.next xs) c.in_ok-offset.ensures.value c.in_ok-id.ensures.value c.in_ok-long.ensures.value ∙ object-next first e n k.value xs k.next c.if-image-from.false ∙ pad-bad first e n (take k.value (drop k.next xs)) xs (k.next + k.value) (omega arith)));
       cases = tt;
     }
 
-pub part-at-requires : goal.part-at-requires
-part-at-requires c =
+pub part_at-requires : goal.part_at-requires
+part_at-requires c =
     let xs = c.args.image.now in
     let first = get_or xs c.args.at 0 in
-    let o = c.in-ok-offset.offset in
-    let n = name_of c.in-ok-id.id.name in
-    omega (arith, part-fits n, id_next xs o.next c.in-ok-id.id.next c.in-ok-offset.ensures.cases.1 c.in-ok-id.ensures.cases.1 (first % 16) n c.requires.nibble c.in-ok-id.ensures.value)
+    let o = c.in_ok-offset.offset in
+    let n = name_of c.in_ok-id.id.name in
+    omega (arith, part-fits n, id_next xs o.next c.in_ok-id.id.next c.in_ok-offset.ensures.cases.1 c.in_ok-id.ensures.cases.1 (first % 16) n c.requires.nibble c.in_ok-id.ensures.value)
 
 pub returns : goal.returns
 returns c =
     let xs = c.args.image.now in
     let at = c.args.at in
     let first = get_or xs at 0 in
-    let o = c.in-ok-offset.offset in
-    let e = c.in-ok-offset.offset.value in
-    let n = name_of c.in-ok-id.id.name in
-    let b = c.in-ok-id.id.next in
-    let k = c.in-ok-long.long in
-    let pad = c.saturating-sub-pad.result in
+    let o = c.in_ok-offset.offset in
+    let e = c.in_ok-offset.offset.value in
+    let n = name_of c.in_ok-id.id.name in
+    let b = c.in_ok-id.id.next in
+    let k = c.in_ok-long.long in
+    let pad = c.saturating_sub-pad.result in
     let object : List ℕ = take (k.next + k.value - k.next) (drop k.next xs) in
     let same : object ≡ take k.value (drop k.next xs) = ap (λ j. take j (drop k.next xs)) (omega arith) in
     let room : k.value ≤ length xs - k.next = c.if-image-from.false in
     let many : length object ≡ k.value = ap length same ∙ length-take-le k.value (drop k.next xs) (omega (arith, length-drop k.next xs)) in
-    let ha : o.next ≡ at + 1 + offset_size e = offset-next xs (at + 1) o.next (omega arith) c.in-ok-offset.ensures.cases.1 first e c.in-ok-offset.ensures.value in
+    let ha : o.next ≡ at + 1 + offset_size e = offset-next xs (at + 1) o.next (omega arith) c.in_ok-offset.ensures.cases.1 first e c.in_ok-offset.ensures.value in
     let hb : b ≡ o.next + name_size n =
-    id_next xs o.next b c.in-ok-offset.ensures.cases.1 c.in-ok-id.ensures.cases.1 (first % 16) n c.requires.nibble c.in-ok-id.ensures.value in
-    let hf : k.next ≡ b + long k.value = long-next xs b k.next c.in-ok-id.ensures.cases.1 c.in-ok-long.ensures.cases.1 k.value c.in-ok-long.ensures.value in
+    id_next xs o.next b c.in_ok-offset.ensures.cases.1 c.in_ok-id.ensures.cases.1 (first % 16) n c.requires.nibble c.in_ok-id.ensures.value in
+    let hf : k.next ≡ b + long k.value = long-next xs b k.next c.in_ok-id.ensures.cases.1 c.in_ok-long.ensures.cases.1 k.value c.in_ok-long.ensures.value in
     record {
       value =
-          sym (ap told (to-object first c.in-ok-offset.offset.value (name_of c.in-ok-id.id.name) k.value (drop (c.args.at + 1) xs) (drop c.in-ok-offset.offset.next xs) (drop c.in-ok-id.id.next xs) (drop k.next xs) c.in-ok-offset.ensures.value c.in-ok-id.ensures.value c.in-ok-long.ensures.value ∙ object-next first e n k.value xs k.next room ∙ pad-next first e n (take k.value (drop k.next xs)) xs (k.next + k.value) (omega arith)) ∙ ap (λ q. tile (holds (made first e n q))) (sym same));
-      cases = (record_is at (made first e n object) o.next b k.next k.value pad _ _ _ ha hb hf many c.saturating-sub-pad.ensures c.number.ensures.value c.part-at.ensures.value c.len.ensures.value, omega arith);
+          sym (ap told (to-object first c.in_ok-offset.offset.value (name_of c.in_ok-id.id.name) k.value (drop (c.args.at + 1) xs) (drop c.in_ok-offset.offset.next xs) (drop c.in_ok-id.id.next xs) (drop k.next xs) c.in_ok-offset.ensures.value c.in_ok-id.ensures.value c.in_ok-long.ensures.value ∙ object-next first e n k.value xs k.next room ∙ pad-next first e n (take k.value (drop k.next xs)) xs (k.next + k.value) (omega arith)) ∙ ap (λ q. tile (holds (made first e n q))) (sym same));
+      cases = (record_is at (made first e n object) o.next b k.next k.value pad _ _ _ ha hb hf many c.saturating_sub-pad.ensures c.number.ensures.value c.part_at.ensures.value c.len.ensures.value, omega arith);
     }

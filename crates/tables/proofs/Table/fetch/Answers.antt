@@ -16,5 +16,5 @@ returns c =
     let n = length c.args.out.now in
     record {
       answer = sym (and_from _ _ c.if-not-self-k.false (le-leb n 32 c.if-n-gt32.false));
-      after = first_part c.copy-from-slice.new.self (row c.args.self.now c.args.k) _ n c.copy-from-slice.ensures.after (omega arith) (search rules);
+      after = first_part c.copy_from_slice.new.self (row c.args.self.now c.args.k) _ n c.copy_from_slice.ensures.after (omega arith) (search rules);
     }

@@ -15,6 +15,6 @@ returns g c =
     let h : k < min s.most (t.count - s.from) = omega (arith, c.shape.ensures.value.0) in
     let b = c.below-below.ensures.value in
     record {
-      answer = c.told-at.ensures.value ∙ ap (told_at k) c.lock.ensures.answer ∙ ap (λ j. told_at k (lock_answer t j)) b ∙ window_lock_answer t s.from s.most k h;
+      answer = c.told_at.ensures.value ∙ ap (told_at k) c.lock.ensures.answer ∙ ap (λ j. told_at k (lock_answer t j)) b ∙ window_lock_answer t s.from s.most k h;
       after = ap (window_tag s.from s.most) (c.lock.ensures.after ∙ ap (λ j. lock_tag t j) b) ∙ window_lock t s.from s.most k h;
     }

@@ -15,6 +15,6 @@ returns g c =
     let h : k < min s.most (t.count - s.from) = omega (arith, c.shape.ensures.value.0) in
     let b = c.below-below.ensures.value in
     record {
-      answer = c.told-at.ensures.value ∙ ap (told_at k) c.write.ensures.answer ∙ ap (λ j. told_at k (write_answer t j (length c.args.from.now))) b ∙ window_write_answer t s.from s.most k h (length c.args.from.now);
+      answer = c.told_at.ensures.value ∙ ap (told_at k) c.write.ensures.answer ∙ ap (λ j. told_at k (write_answer t j (length c.args.from.now))) b ∙ window_write_answer t s.from s.most k h (length c.args.from.now);
       after = ap (window_tag s.from s.most) (c.write.ensures.after ∙ ap (λ j. write_tag t j c.args.from.now) b) ∙ window_write t s.from s.most k h c.args.from.now;
     }

@@ -7,15 +7,15 @@ use Rattle.writing.proofs.Formed.{packed-most}
 use Rattle.writing.proofs.Puttings.{puts_set}
 use Rattle.writing.proofs.forms.write_form.Goals as goal
 
-pub put-length-next-requires : goal.put-length-next-requires
-put-length-next-requires c = record { few = omega (arith, c.requires.limits.2.1, c.requires.planned.1, packed-most c.args.kind c.args.object.now); room = search rules }
+pub put_length-next-requires : goal.put_length-next-requires
+put_length-next-requires c = record { few = omega (arith, c.requires.limits.2.1, c.requires.planned.1, packed-most c.args.kind c.args.object.now); room = search rules }
 
 pub returns : goal.returns
 returns c =
-    puts_set (form c.args.extra c.args.identifier.now (kind_number c.args.kind) c.args.object.now) c.put-byte-next.result c.put-offset-next.result c.put-identifier-next.result c.put-length-next.result c.put-packed-next.result c.put-zeros.result _
-    c.args.out.now c.put-byte-next.new.out c.put-offset-next.new.out c.put-identifier-next.new.out c.put-length-next.new.out c.put-packed-next.new.out c.put-zeros.new.out
-    (λ i. c.offset-bit.ensures i + 16 * (c.number.ensures ∙ c.requires.planned.0) i + c.nibble-of.ensures.value i)
-    c.put-byte-next.ensures c.put-offset-next.ensures c.put-identifier-next.ensures
-    (subst (λ n. Puts c.put-identifier-next.result (length_bytes n) c.put-identifier-next.new.out c.put-length-next.new.out c.put-length-next.result) c.requires.planned.1 c.put-length-next.ensures)
-    c.put-packed-next.ensures
-    (subst (λ k. Puts c.put-packed-next.result (replicate k 0) c.put-packed-next.new.out c.put-zeros.new.out c.put-zeros.result) c.saturating-sub.ensures c.put-zeros.ensures)
+    puts_set (form c.args.extra c.args.identifier.now (kind_number c.args.kind) c.args.object.now) c.put_byte-next.result c.put_offset-next.result c.put_identifier-next.result c.put_length-next.result c.put_packed-next.result c.put_zeros.result _
+    c.args.out.now c.put_byte-next.new.out c.put_offset-next.new.out c.put_identifier-next.new.out c.put_length-next.new.out c.put_packed-next.new.out c.put_zeros.new.out
+    (λ i. c.offset_bit.ensures i + 16 * (c.number.ensures ∙ c.requires.planned.0) i + c.nibble_of.ensures.value i)
+    c.put_byte-next.ensures c.put_offset-next.ensures c.put_identifier-next.ensures
+    (subst (λ n. Puts c.put_identifier-next.result (length_bytes n) c.put_identifier-next.new.out c.put_length-next.new.out c.put_length-next.result) c.requires.planned.1 c.put_length-next.ensures)
+    c.put_packed-next.ensures
+    (subst (λ k. Puts c.put_packed-next.result (replicate k 0) c.put_packed-next.new.out c.put_zeros.new.out c.put_zeros.result) c.saturating_sub.ensures c.put_zeros.ensures)

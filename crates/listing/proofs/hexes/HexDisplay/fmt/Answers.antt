@@ -11,7 +11,7 @@ loop-b-preserved g c plain =
     let i = c.loop-b.b-index in
     let took = g.W.Write.write_str_gives in
     let x = c.loop-b.invariant plain in
-    let y = c.write.ensures.writes x.plain (ap is_ok c.in-ok-write.was) in
+    let y = c.write.ensures.writes x.plain (ap is_ok c.in_ok-write.was) in
     has_written_of_eq took _ _ _ _ (hex-more bs i c.loop-b-test.true) (has_written_append took _ (hex (take i bs)) c.loop-b.f (hex (get_or bs i 0 ∷ [])) _ x y)
 
 pub returns-clause-writes : goal.returns-clause-writes

@@ -1,13 +1,13 @@
-use Rattle.std.proofs.Common.{◌≡◌, sym, refl, ap, ◌∙◌, arith}
+use Rattle.std.proofs.Common.{refl, ap, ◌∙◌, arith}
 use Rattle.codes.specs.Table.{whole, letter}
 use Rattle.packing.proofs.Meaning.{many-whole}
 use Rattle.packing.proofs.Alphabets.{row, lettered-said}
 use Rattle.packing.proofs.alphabet.AlphabetCode.byte.Goals as goal
 
-pub group-of-requires : goal.group-of-requires
-group-of-requires c =
+pub group_of-requires : goal.group_of-requires
+group_of-requires c =
     let s = c.args.self.now in
-    let in' = lettered-said s.width s.first s.last (whole s.width c.args.bytes.now) c.args.-n (omega (arith, many-whole s.width c.args.bytes.now _ refl)) c.args.i c.requires.here in
+    let in' = lettered-said s.width s.first s.last (whole s.width c.args.bytes.now) c.args._n (omega (arith, many-whole s.width c.args.bytes.now _ refl)) c.args.i c.requires.here in
     record { widths = ((row s).wide, omega (arith, (row s).narrow)); inside = omega (arith, in'.0, c.requires.inside) }
 
 pub returns : goal.returns

@@ -1,4 +1,4 @@
-use Rattle.std.proofs.Common.{◌≡◌, ◌%◌, ◌^◌, ◌<◌, ◌≤◌, length, get_or, sym, ap, ◌∙◌, arith}
+use Rattle.std.proofs.Common.{◌%◌, ◌^◌, ◌<◌, length, sym, ap, ◌∙◌, arith}
 use Rattle.std.proofs.lemmas.List.{length-map, get_or-map}
 use Rattle.std.proofs.lemmas.Nat.{one_shl, pow_pos}
 use Rattle.packing.proofs.Alphabets.{row}
@@ -7,11 +7,11 @@ use Rattle.packing.proofs.alphabet.AlphabetCode.group.Goals as goal
 pub bounds-object-i : goal.bounds-object-i
 bounds-object-i c = omega (arith, length-map c.args.object.now (λ b. b % 2 ^ c.args.self.now.width))
 
-pub overflow-shl-result : goal.overflow-shl-result
-overflow-shl-result c = let s = c.args.self.now in omega (arith, (row s).narrow)
+pub overflow_shl-result : goal.overflow_shl-result
+overflow_shl-result c = let s = c.args.self.now in omega (arith, (row s).narrow)
 
-pub nonzero-rem-result : goal.nonzero-rem-result
-nonzero-rem-result c =
+pub nonzero_rem-result : goal.nonzero_rem-result
+nonzero_rem-result c =
     let s = c.args.self.now in
     omega (arith, one_shl s.width 32 (omega (arith, (row s).narrow)), pow_pos s.width)
 

@@ -1,11 +1,11 @@
-use Rattle.std.proofs.Common.{◌≡◌, ◌<◌, ◌≤◌, sym, refl, ap, ◌∙◌, subst, arith}
+use Rattle.std.proofs.Common.{◌<◌, ◌≤◌, sym, refl, ap, ◌∙◌, subst, arith}
 use Rattle.codes.specs.Table.{whole, letter}
 use Rattle.packing.proofs.Meaning.{many-whole}
 use Rattle.packing.proofs.Alphabets.{row, upto-more, spelt, spelt-long, letter_at, lettered-stop, lettered-all}
 use Rattle.packing.proofs.alphabet.AlphabetCode.length.Goals as goal
 
-pub group-of-requires : goal.group-of-requires
-group-of-requires c = let s = c.args.self.now in record { widths = ((row s).wide, omega (arith, (row s).narrow)); inside = omega (arith, c.requires) }
+pub group_of-requires : goal.group_of-requires
+group_of-requires c = let s = c.args.self.now in record { widths = ((row s).wide, omega (arith, (row s).narrow)); inside = omega (arith, c.requires) }
 
 pub returns-then-letter-self : goal.returns-then-letter-self
 returns-then-letter-self c =

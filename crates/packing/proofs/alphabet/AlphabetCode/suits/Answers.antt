@@ -7,10 +7,10 @@ returns-then-n-self c =
     let s = c.args.self.now in
     suit-few (row s) c.args.object.now c.if-n-self.true
 
-pub returns-then-not-all-within : goal.returns-then-not-all-within
-returns-then-not-all-within c =
+pub returns-then-not-all_within : goal.returns-then-not-all_within
+returns-then-not-all_within c =
     let s = c.args.self.now in
-    suit-other (row s) c.args.object.now c.if-not-all-within.ensures
+    suit-other (row s) c.args.object.now c.if-not-all_within.ensures
 
 pub returns : goal.returns
 returns c =

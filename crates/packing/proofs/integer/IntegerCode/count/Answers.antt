@@ -3,8 +3,8 @@ use Rattle.std.specs.Int.Digits.{digits_of}
 use Rattle.codes.proofs.Integers.{integer-parts, integer-under_numeric}
 use Rattle.packing.proofs.integer.IntegerCode.count.Goals as goal
 
-pub value-of-requires : goal.value-of-requires
-value-of-requires c = let p = integer-parts c.args.object.now c.requires in record { digits = p.2; few = p.1 }
+pub value_of-requires : goal.value_of-requires
+value_of-requires c = let p = integer-parts c.args.object.now c.requires in record { digits = p.2; few = p.1 }
 
 pub returns : goal.returns
 returns c =

@@ -6,10 +6,10 @@ pub returns-then-object-lt2 : goal.returns-then-object-lt2
 unfolding permitted
 returns-then-object-lt2 c = search rules
 
-pub returns-then-all-within : goal.returns-then-all-within
+pub returns-then-all_within : goal.returns-then-all_within
 unfolding permitted
-returns-then-all-within c = search rules
+returns-then-all_within c = search rules
 
-pub returns-else-all-within : goal.returns-else-all-within
+pub returns-else-all_within : goal.returns-else-all_within
 unfolding permitted
-returns-else-all-within c = search rules
+returns-else-all_within c = search rules
