@@ -27,7 +27,7 @@ fn set_line(
     match entry_at(image, locks, size, at, &mut scratch) {
         Some(entry) => {
             let line = SetLine(entry);
-            format!(heap, "{line}\n")
+            format!(in heap; "{line}\n")
         }
         None => Ok(String::new(heap)),
     }
@@ -56,7 +56,7 @@ fn list(heap: Global, bytes: &[u8]) -> Result<String, AllocError>
     let mut table = [SetRecord::EMPTY; SETS];
     let tally = match examine(bytes, &mut table) {
         Ok(tally) => tally,
-        Err(refused) => return format!(heap, "{refused}\n"),
+        Err(refused) => return format!(in heap; "{refused}\n"),
     };
     let dump = match Dump::read(bytes) {
         Ok(dump) => dump,
@@ -77,7 +77,7 @@ fn list(heap: Global, bytes: &[u8]) -> Result<String, AllocError>
     let locks = &bytes[3..content];
     let count = tally.sets.min(SETS);
     let sets = set_lines(heap, dump.content(), locks, shape.size, &table[0..count])?;
-    format!(heap, "{tag}\n{sets}{used}\n")
+    format!(in heap; "{tag}\n{sets}{used}\n")
 }
 
 /// What is printed of a dump: a line for the tag, one for each set and one for the bytes used; or the line of its refusal.

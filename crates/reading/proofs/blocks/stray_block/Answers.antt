@@ -4,7 +4,7 @@ use Rattle.sets.proofs.Sweeping.{Swept}
 use Rattle.reading.specs.Checks.{memory}
 use Rattle.reading.proofs.Sweeps.{starts, turn-fits, turn-met, turn-passed, turn-went, end-met, end-clear}
 use Rattle.reading.proofs.blocks.stray_block.Goals as goal
-use Rattle.reading.proofs.blocks.stray_block.Goals.{then-all-locked+in-default, else-all-locked}
+use Rattle.reading.proofs.blocks.stray_block.Goals.{then-all_locked+in_default, else-all_locked}
 
 pub loop-set-init : goal.loop-set-init
 loop-set-init c = starts c.args.size c.args.locks.now c.args.image.now c.args.sets.now c.requires.all
@@ -33,7 +33,7 @@ loop-set-preserved c =
     let rs = c.args.sets.now in
     let j = c.loop-set.set-index in
     let S = Swept (memory b locks xs) (found xs) (j + 1) in
-    elim c.if-all_locked.branch [ then-all-locked+in-default w ↦ subst S (sym w.from-is) (turn-went b locks xs rs c.requires.all j c.loop-set.from c.loop-set.invariant c.loop-set-test.true (sym w.if-all_locked.ensures.value) w.in_default.ensures.cases) | else-all-locked w ↦ subst S (sym w.from-is) (turn-passed b locks xs rs c.requires.all j c.loop-set.from c.loop-set.invariant c.loop-set-test.true (sym w.if-all_locked.ensures.value)) ]
+    elim c.if-all_locked.branch [ then-all_locked+in_default w ↦ subst S (sym w.from-is) (turn-went b locks xs rs c.requires.all j c.loop-set.from c.loop-set.invariant c.loop-set-test.true (sym w.if-all_locked.ensures.value) w.in_default.ensures.cases) | else-all_locked w ↦ subst S (sym w.from-is) (turn-passed b locks xs rs c.requires.all j c.loop-set.from c.loop-set.invariant c.loop-set-test.true (sym w.if-all_locked.ensures.value)) ]
 
 pub returns-in-Some-first_locked : goal.returns-in-Some-first_locked
 returns-in-Some-first_locked c = record {

@@ -38,14 +38,14 @@ returns-in-Filler c =
 pub examine-requires : goal.examine-requires
 examine-requires c = (subst (λ s. Frames c.args.at (Ok s)) c.in-Set.is c.in-Ok.ensures.cases).1
 
-pub returns-in_err-examine : goal.returns-in_err-examine
-returns-in_err-examine c =
+pub returns-in_err-examine-in-Set : goal.returns-in_err-examine-in-Set
+returns-in_err-examine-in-Set c =
     let xs = c.args.image.now in
     let at = c.args.at in
     let s = set_of c.in-Set.set in
     let p = err_from_is_err_and c.from_residual.result c.from_residual.ensures.1 in
     let e = p.1 ∙ ap Err p.2 in
-    let k = c.in_err-examine.ensures.cases in
+    let k = c.in_err-examine-in-Set.ensures.cases in
     let is : tile (holds s) ≡ parse (drop at xs) = ap (λ q. framed (Ok q)) (sym c.in-Set.is) ∙ c.in-Ok.ensures.value in
     record {
       value = ap told e ∙ sym (next-is unpacked (tile (holds s)) (drop at xs) is ∙ ap (examined s) k.1);
@@ -53,12 +53,12 @@ returns-in_err-examine c =
       written = smallest-back;
     }
 
-pub returns-in_ok-examine : goal.returns-in_ok-examine
-returns-in_ok-examine c =
+pub returns-in_ok-examine-in-Set : goal.returns-in_ok-examine-in-Set
+returns-in_ok-examine-in-Set c =
     let xs = c.args.image.now in
     let at = c.args.at in
     let v = c.in-Set.set in
-    let k = c.in_ok-examine.ensures.cases in
+    let k = c.in_ok-examine-in-Set.ensures.cases in
     let f = subst (λ s. Frames at (Ok s)) c.in-Set.is c.in-Ok.ensures.cases in
     let is : tile (holds (set_of v)) ≡ parse (drop at xs) = ap (λ q. framed (Ok q)) (sym c.in-Set.is) ∙ c.in-Ok.ensures.value in
     record {
