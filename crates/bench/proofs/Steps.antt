@@ -1,6 +1,6 @@
 -- The bench tag's memory at a block that there is.
-use Rattle.std.proofs.Common.{◌≡◌, ℕ, ◌+◌, ◌*◌, ◌<◌, ◌≤◌, Bool, true, List, length, set, refl, ap, ◌∙◌, arith, length-set}
-use Rattle.tags.specs.Tags.{Tag, laid, fits, held}
+use Rattle.std.proofs.Common.{◌≡◌, ℕ, ◌+◌, ◌*◌, ◌<◌, ◌≤◌, Bool, List, length, refl, ap, arith}
+use Rattle.tags.specs.Tags.{laid, fits, held}
 use Rattle.tags.proofs.Limits.{held-room}
 use Rattle.drivers.proofs.Laid.{block_inside}
 

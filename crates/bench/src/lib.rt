@@ -1,4 +1,6 @@
 // The bench tag: a driver on lent memory and lent lock flags.
+#![tactic(auto)]
+
 ghost use Rattle.std.specs.Prelude.{◌≡◌, ◌+◌, ◌<◌, ◌≤◌, true, length, Some, None, MatchResult, slice_set, refl};
 ghost use borrow.Rule.Slice.PartMut.{put_mid};
 ghost use Rattle.tags.specs.Tags.{laid};

@@ -3,6 +3,8 @@
 // A line is `pack KIND OBJECT CODE PACKED`, `unpack CODE PACKED object OBJECT` or
 // `unpack CODE PACKED fault NUMBER GROUP`; bytes are hexadecimal, `-` is none. Refusals, with an output of ROOM bytes,
 // are `refuse-pack CODE OBJECT ROOM size`, `.. code` or `.. short N`, and `refuse-unpack CODE PACKED ROOM short N`.
+#![tactic(auto)]
+
 use anyhow::{Context, anyhow};
 use codes::{Compaction, Kind};
 use packing::{PackFault, UnpackFault, measure, pack, pack_as, unpack};

@@ -1,11 +1,10 @@
 -- Laws of bits, groups and packing, for every width.
-use Rattle.std.proofs.Common.{◌≡◌, ℕ, zero, suc, ◌+◌, ◌-◌, ◌*◌, ◌/◌, ◌%◌, ◌^◌, ◌<◌, ◌≤◌, Bool, true, false, cond, ◌&&◌, eqb, leb, ◌⊎◌, List, [], ◌∷◌, ◌++◌, length, get_or, take, drop, Ok, Err, Result, sym, refl, ap, ◌∙◌, subst, inl, inr, ⊎_elim, append_assoc, append-nil, le_trans, add-zero, add-suc, mul-le-mul_right, mod-lt, mod-eq_of_lt, mul_assoc, suc-mul, mul_comm, add-mul, add_comm, suc-add, one-mul, pow-suc, div-add-mod', zero-add, zero-mul, div-mul-le_self, add-one, arith, length-append, length-drop, length-take, pow_pos, pow-add, shr-shr}
+use Rattle.std.proofs.Common.{◌≡◌, ℕ, zero, suc, ◌+◌, ◌-◌, ◌*◌, ◌/◌, ◌%◌, ◌^◌, ◌<◌, ◌≤◌, Bool, true, false, cond, ◌&&◌, eqb, leb, List, [], ◌∷◌, ◌++◌, length, take, drop, Ok, Err, Result, sym, refl, ap, ◌∙◌, ⊎_elim, append_assoc, le_trans, add-suc, mul-le-mul_right, mod-eq_of_lt, mul_assoc, suc-mul, mul_comm, add_comm, suc-add, pow-suc, zero-add, zero-mul, div-mul-le_self, add-one, arith, length-append, length-drop, length-take, pow_pos, pow-add, shr-shr}
 use native.Mathlib.Nat.{mul-add-mod_self_right, pow-succ', mul-add-div_right, mod-one}
 use lib.Arith.{digits_lt, digits_div, digits_mod}
 use lib.Pow.{high, mod-pow-add}
-use Rattle.std.specs.List.{AllByRecursion as All}
 use Rattle.std.specs.Int.Digits.{AllBelowBase}
-use Rattle.std.proofs.lemmas.List.{take_at, drop_at, drop-drop, length-take-le, take-append-le, drop-append-le, get_or_push, take-append-drop, length_push, take_all, take-take, drop-take, nil_from_length}
+use Rattle.std.proofs.lemmas.List.{take_at, drop_at, drop-drop, length-take-le, take-append-le, get_or_push, take-append-drop, length_push, take-take, drop-take, nil_from_length}
 use Rattle.std.proofs.ByRecursion.{All-take, All-drop, All-append}
 use Rattle.std.proofs.lemmas.Bool.{cases_lt, eq-eqb, le-leb, and_left, and_right, and_from, cond-true, cond-false, cond_both, lt-leb}
 use Rattle.codes.specs.Bits.{bits, val, spread, groups, bytes_for, spare, padding, packed, ends, trimmed}

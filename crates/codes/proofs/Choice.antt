@@ -1,15 +1,15 @@
 -- Laws over the whole table.
-use Rattle.std.proofs.Common.{◌≡◌, ℕ, zero, suc, ◌+◌, ◌-◌, ◌*◌, ◌/◌, ◌%◌, ◌^◌, ◌<◌, ◌≤◌, Bool, true, false, cond, not, ◌&&◌, eqb, ltb, leb, ◌⊎◌, List, [], ◌∷◌, map, length, get_or, Ok, Err, Result, sym, refl, ap, ◌∙◌, subst, inl, inr, ⊎_elim, le_trans, le_refl, arith}
+use Rattle.std.proofs.Common.{◌≡◌, ℕ, zero, suc, ◌%◌, ◌^◌, ◌<◌, ◌≤◌, Bool, true, false, cond, not, ◌&&◌, List, [], ◌∷◌, length, Ok, refl, ap, ◌∙◌, subst, ⊎_elim, le_trans, arith}
 use Rattle.std.specs.Int.Digits.{digits_of, number_from_digits, AllBelowBase}
 use Rattle.std.proofs.lemmas.Int.Digits.{length-digits_of_step}
 use Rattle.std.proofs.lemmas.List.{length-map}
-use Rattle.std.proofs.lemmas.Bool.{false≢true, cases_lt, cases_Bool, le-leb, leb-true, not-true, not_from_false, and_parts, and_from, both_ways, cond-true, cond-false, cond_both}
-use Rattle.codes.specs.Bits.{packed, bytes_for, ends, spare}
+use Rattle.std.proofs.lemmas.Bool.{false≢true, cases_lt, le-leb, not-true, not_from_false, and_parts, and_from, cond_both}
+use Rattle.codes.specs.Bits.{packed, bytes_for}
 use Rattle.codes.specs.Table.{within, low_bits}
 use Rattle.codes.proofs.BitLaws.{length-packed}
-use Rattle.codes.specs.Table.{Way, value, decimal, largest, letter, unpacked_integer, unpacked_letters, blank_end, many, code, permitted, packed_code, unpacked_code, first_code}
-use Rattle.codes.specs.Laws.{ComesBack, FirstPermitted, FirstShortest, NoneShorter, NoBlankEnd, Integers}
-use Rattle.codes.proofs.Integers.{integer-back, integer-parts, integer-says, integer-fewest, integers, value-decimal, decimal-permitted, decimal-one, integer-under_numeric}
+use Rattle.codes.specs.Table.{value, unpacked_integer, blank_end, many, code, permitted, packed_code, unpacked_code, first_code}
+use Rattle.codes.specs.Laws.{ComesBack, FirstPermitted, FirstShortest, NoneShorter}
+use Rattle.codes.proofs.Integers.{integer-back, integer-parts, integer-says, integers, decimal-permitted, decimal-one, integer-under_numeric}
 use Rattle.codes.proofs.Letters.{letters-back, letters_say, letters-fewest, no_pad-letter, blank-kept, no_blank}
 
 -- one statement for each code

@@ -1,15 +1,14 @@
 -- One group of t bits, out of three neighbouring groups of f bits.
-use Rattle.std.proofs.Common.{◌≡◌, ℕ, zero, suc, ◌+◌, ◌-◌, ◌*◌, ◌/◌, ◌%◌, ◌^◌, ◌<◌, ◌≤◌, ◌⊎◌, List, [], ◌∷◌, ◌++◌, length, get_or, take, drop, sym, refl, ap, ◌∙◌, subst, inl, inr, ⊎_elim, append_assoc, append-nil, mul-le-mul_right, mod-lt, mul_assoc, suc-mul, mul_comm, add-mul, add_comm, suc-add, one-mul, div-add-mod', zero-add, zero-mul, le_of_mul-le-mul_right, arith, length-append, length-drop, pow_pos, shr_lt}
+use Rattle.std.proofs.Common.{◌≡◌, ℕ, zero, suc, ◌+◌, ◌-◌, ◌*◌, ◌/◌, ◌%◌, ◌^◌, ◌<◌, ◌≤◌, List, [], ◌∷◌, ◌++◌, length, get_or, take, drop, sym, refl, ap, ◌∙◌, subst, ⊎_elim, append_assoc, append-nil, mul-le-mul_right, mod-lt, mul_assoc, suc-mul, mul_comm, add-mul, add_comm, suc-add, div-add-mod', zero-add, zero-mul, arith, length-append, length-drop, pow_pos, shr_lt}
 use native.Mathlib.Nat.{mul-add-div_right, mul-add-mod_self_right}
 use lib.Pow.{split}
 use lib.Seq.{take-append-add}
-use Rattle.std.specs.List.{AllByRecursion as All}
 use Rattle.std.specs.Int.Digits.{AllBelowBase}
-use Rattle.std.proofs.lemmas.List.{take_at, drop_at, drop-drop, drop_more, take-append-le, drop-append-le, take_all, drop_all, take-take, drop-take, get_or_append_left, get_or-append_right, get_or_past, length-take-le, take-append-drop}
+use Rattle.std.proofs.lemmas.List.{take_at, drop_at, drop-drop, drop_more, take-append-le, drop-append-le, drop_all, take-take, drop-take, get_or_append_left, get_or-append_right, get_or_past}
 use Rattle.std.proofs.ByRecursion.{All-get_or, All-append}
 use Rattle.std.proofs.lemmas.Bool.{cases_lt}
 use Rattle.codes.specs.Bits.{bits, val, spread, groups, bytes_for, spare, padding, packed}
-use Rattle.codes.proofs.BitLaws.{length-bits, bits_join, val-bits, val-bits-lt, length-spread, length-groups, spare-fits}
+use Rattle.codes.proofs.BitLaws.{length-bits, bits_join, val-bits, val-bits-lt, length-spread, spare-fits}
 
 -- the back and the front of a number's bits
 pub drop_bits : (a b x : ℕ) → drop a (bits (a + b) x) ≡ bits b x

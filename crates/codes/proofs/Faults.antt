@@ -1,10 +1,10 @@
 -- What faults tell.
-use Rattle.std.proofs.Common.{◌≡◌, ℕ, zero, suc, ◌+◌, ◌-◌, ◌*◌, ◌/◌, ◌%◌, ◌^◌, ◌<◌, ◌≤◌, Bool, true, false, cond, ◌&&◌, ltb, leb, ◌⊎◌, List, [], ◌∷◌, map, length, get_or, Ok, Err, Result, sym, refl, ap, ◌∙◌, subst, inl, inr, ⊎_elim, arith}
+use Rattle.std.proofs.Common.{◌≡◌, ℕ, zero, suc, ◌*◌, ◌/◌, ◌<◌, ◌≤◌, Bool, cond, ◌&&◌, ltb, leb, List, [], ◌∷◌, map, length, get_or, Ok, Err, sym, refl, ◌∙◌, subst, inl, inr, ⊎_elim, arith}
 use Rattle.std.specs.Int.Digits.{number_from_digits}
 use Rattle.std.proofs.lemmas.Bool.{cases_Bool, leb-true, leb-false, ltb-true, ltb-false, and_cases, cond-true, cond-false}
 use Rattle.codes.specs.declared.fault.Fault.{Fault}
 use Rattle.codes.specs.declared.fault.Fault.TheVariants.{TooLarge, NoCharacter, NoPadding}
-use Rattle.codes.specs.Table.{largest, decimal, upto, letter, told, remaining, pad_behind, Way, integer, letters, octets, unpacking, unpacked_integer, unpacked_letters, unpacked_code, code}
+use Rattle.codes.specs.Table.{largest, decimal, upto, letter, remaining, pad_behind, Way, integer, letters, octets, unpacking, unpacked_integer, unpacked_letters, unpacked_code, code}
 use Rattle.codes.specs.Laws.{LettersUpto, Told, FaultsTold, LettersStand}
 
 -- up to the first byte above hi

@@ -1,13 +1,12 @@
 -- The integer code: digits, value, fewest bytes.
-use Rattle.std.proofs.Common.{◌≡◌, ℕ, zero, suc, ◌+◌, ◌-◌, ◌*◌, ◌/◌, ◌%◌, ◌^◌, ◌<◌, ◌≤◌, Bool, true, false, cond, not, ◌&&◌, eqb, ltb, leb, ◌⊎◌, List, [], ◌∷◌, ◌++◌, map, length, get_or, Ok, Err, Result, sym, refl, ap, ◌∙◌, subst, inl, inr, ⊎_elim, append_assoc, append-nil, le_trans, lt_of_lt_of_le, mul-le-mul_right, mod-eq_of_lt, suc-mul, div-lt_iff_lt-mul, one-mul, pow-suc, zero-add, zero-mul, arith, pow_mono, pow-add}
+use Rattle.std.proofs.Common.{◌≡◌, ℕ, zero, suc, ◌+◌, ◌-◌, ◌*◌, ◌/◌, ◌%◌, ◌^◌, ◌<◌, ◌≤◌, true, not, ◌&&◌, eqb, leb, List, [], ◌∷◌, ◌++◌, map, length, get_or, Ok, Err, sym, refl, ap, ◌∙◌, subst, ⊎_elim, append_assoc, append-nil, mul-le-mul_right, mod-eq_of_lt, suc-mul, div-lt_iff_lt-mul, one-mul, pow-suc, zero-mul, arith, pow_mono, pow-add}
 use native.Mathlib.Nat.{pow-zero, pow-le-pow_right, pow-le-pow_left, div-eq_of_lt}
 use lib.Arith.{digits_div, digits_mod}
 use Rattle.std.specs.Int.Digits.{digits_with_fuel, digits_of, number_from_digits, number_from_digits_after, AllBelowBase}
 use Rattle.std.proofs.lemmas.Int.Digits.{digits_of_step, length-digits_of_step, length-digits_of-le, all_below_base_digits_of, first_digits_of, number_digits_of, number_lt, number_after_ge}
 use Rattle.std.proofs.lemmas.List.{length-map, get_or-map}
-use Rattle.std.proofs.lemmas.Bool.{cases_lt, cases_eq, cases_Bool, ne_eqb, eq-eqb, le-leb, leb-true, eqb-false, not-true, not_from_false, and_parts, and_from, cond-true, cond-false}
+use Rattle.std.proofs.lemmas.Bool.{cases_lt, cases_eq, cases_Bool, ne_eqb, le-leb, leb-true, eqb-false, not-true, not_from_false, and_parts, and_from, cond-true, cond-false}
 use Rattle.codes.specs.Table.{within}
-use Rattle.codes.specs.declared.fault.Fault.{Fault}
 use Rattle.codes.specs.declared.fault.Fault.TheVariants.{TooLarge}
 use Rattle.codes.specs.Table.{value, decimal, largest, unpacked_integer, permitted}
 use Rattle.codes.specs.Laws.{Integer}

@@ -1,16 +1,15 @@
 -- The four alphabets: what bytes say, and what comes back.
-use Rattle.std.proofs.Common.{◌≡◌, ℕ, zero, suc, ◌+◌, ◌-◌, ◌*◌, ◌/◌, ◌%◌, ◌^◌, ◌<◌, ◌≤◌, Bool, true, false, cond, not, ◌&&◌, eqb, ltb, leb, ◌⊎◌, List, [], ◌∷◌, ◌++◌, map, length, get_or, take, drop, Ok, Err, Result, sym, refl, ap, ◌∙◌, subst, inl, inr, ⊎_elim, lt_of_lt_of_le, mod-lt, arith, length-take, pow_pos, pow_mono}
+use Rattle.std.proofs.Common.{◌≡◌, ℕ, zero, suc, ◌+◌, ◌-◌, ◌*◌, ◌/◌, ◌%◌, ◌^◌, ◌<◌, ◌≤◌, Bool, true, false, cond, ◌&&◌, eqb, ltb, leb, ◌⊎◌, List, [], ◌∷◌, map, length, get_or, take, drop, Ok, Err, sym, refl, ap, ◌∙◌, subst, inl, inr, ⊎_elim, lt_of_lt_of_le, mod-lt, arith, length-take, pow_pos, pow_mono}
 use Rattle.std.specs.List.{AllByRecursion as All}
 use Rattle.std.specs.Int.Digits.{AllBelowBase}
 use Rattle.std.proofs.lemmas.List.{length-map, get_or-map, get_or_default, length-take-le}
 use Rattle.std.proofs.ByRecursion.{All-get_or, All-take, All-drop}
-use Rattle.std.proofs.lemmas.Bool.{cases_lt, cases_eq, cases_Bool, ne_eqb, eq-eqb, le-leb, le-ltb, leb-true, leb-false, ltb-false, eqb-true, eqb-false, not-true, and_parts, and_cases, and_from, both_ways, cond-true, cond-false, cond_both}
-use Rattle.codes.specs.Bits.{bits, val, spread, groups, packed, trimmed, ends, spare, bytes_for}
+use Rattle.std.proofs.lemmas.Bool.{cases_lt, cases_Bool, ne_eqb, eq-eqb, le-leb, le-ltb, leb-true, leb-false, ltb-false, eqb-true, eqb-false, and_parts, and_cases, and_from, both_ways, cond-true, cond-false, cond_both}
+use Rattle.codes.specs.Bits.{spread, groups, packed, trimmed, ends, spare, bytes_for}
 use Rattle.codes.specs.Table.{within, low_bits}
 use Rattle.codes.proofs.BitLaws.{unpacked, round, shortest, val-lt, under-spread, length-groups}
-use Rattle.codes.specs.declared.fault.Fault.{Fault}
 use Rattle.codes.specs.declared.fault.Fault.TheVariants.{NoCharacter, NoPadding}
-use Rattle.codes.specs.Table.{whole, behind, remaining, pad_behind, letter, upto, told, unpacked_letters, blank_end}
+use Rattle.codes.specs.Table.{whole, remaining, pad_behind, letter, upto, told, unpacked_letters, blank_end}
 
 -- tests of all bytes
 pub all-within : (lo hi : ℕ) (x : List ℕ) → within lo hi x ≡ true → All (λ b. (lo ≤ b) × (b ≤ hi)) x

@@ -1,5 +1,5 @@
 -- Worked examples, as statements.
-use Rattle.std.specs.Prelude.{◌≡◌, ℕ, List, [], ◌∷◌, replicate, Ok, codes}
+use Rattle.std.specs.Prelude.{◌≡◌, ℕ, List, [], ◌∷◌, Ok, codes}
 use Rattle.std.specs.List.{AllByRecursion as All}
 use Rattle.codes.specs.Table.{first_code, packed_code, unpacked_code}
 

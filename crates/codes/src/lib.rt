@@ -1,4 +1,6 @@
 // How an object is packed into bytes: the table of codes, as definitions, with its laws and worked examples.
+#![tactic(auto)]
+
 ghost use Rattle.std.specs.Prelude.{◌≡◌, length};
 ghost use Rattle.codes.specs.Examples.{examples, ExamplesHold};
 ghost use Rattle.codes.specs.Laws.{LettersStand};

@@ -1,11 +1,11 @@
 -- Turning keeps lengths and shapes, undoes itself, and goes through a driver's calls.
-use Rattle.std.proofs.Common.{◌≡◌, ℕ, zero, suc, ◌<◌, Bool, true, false, cond, ◌&&◌, eqb, ltb, List, [], ◌∷◌, map, reverse, length, get_or, set, is_ok, Ok, Result, sym, refl, ap, ◌∙◌, ⊎_elim, arith}
+use Rattle.std.proofs.Common.{◌≡◌, ℕ, zero, suc, ◌<◌, Bool, true, cond, ◌&&◌, eqb, ltb, List, [], ◌∷◌, map, length, get_or, set, is_ok, Ok, Result, sym, refl, ap, ◌∙◌, ⊎_elim, arith}
 use Rattle.std.proofs.lemmas.List.{length-map, length-reverse, reverse-reverse, get_or-map, map-set, nil_from_length}
-use Rattle.std.proofs.lemmas.Bool.{cond-true, cond-false, lt-ltb, ltb-true, cases_Bool}
+use Rattle.std.proofs.lemmas.Bool.{cond-false, ltb-true, cases_Bool}
 use Rattle.std.proofs.lemmas.Bool.Decides.{Decides-below_and, Decides-eqb}
 use Rattle.tags.specs.Tags.{Tag, Shaped}
 use Rattle.drivers.specs.declared.faults.DriverFault.{DriverFault}
-use Rattle.drivers.specs.Questions.{block, read_answer, read_buffer}
+use Rattle.drivers.specs.Questions.{read_answer, read_buffer}
 use Rattle.drivers.specs.Changes.{with_block, write_answer, write_tag}
 use Rattle.drivers.proofs.Granted.{cond_of}
 use Rattle.drivers.specs.Layers.{turn_tag, turned_onto, mirror, by_bytes, by_bits}

@@ -1,12 +1,12 @@
 -- What a window makes of a driver's calls.
-use Rattle.std.proofs.Common.{◌≡◌, ℕ, ◌+◌, ◌-◌, ◌<◌, ◌≤◌, min, Bool, true, false, cond, eqb, ltb, List, [], length, get_or, take, drop, set, is_ok, Ok, Err, Result, sym, refl, ap, ◌∙◌, arith}
+use Rattle.std.proofs.Common.{◌≡◌, ℕ, ◌+◌, ◌-◌, ◌<◌, ◌≤◌, min, true, false, cond, eqb, ltb, List, [], length, take, drop, set, is_ok, Ok, Err, Result, sym, refl, ap, ◌∙◌, arith}
 use lib.Seq.{take-set-lt, drop-set-add}
 use Rattle.std.proofs.lemmas.List.{get_or-take, get_or-drop, length-take, length-drop, take_all}
 use Rattle.std.proofs.lemmas.Bool.{lt-ltb, cond-true}
 use Rattle.tags.specs.Tags.{Tag, Shaped}
 use Rattle.drivers.specs.declared.faults.DriverFault.{DriverFault}
 use Rattle.drivers.specs.declared.faults.DriverFault.TheVariants.{NoBlock, WrongBuffer, Locked}
-use Rattle.drivers.specs.Questions.{shut, block, locked_answer, read_answer, read_buffer}
+use Rattle.drivers.specs.Questions.{shut, locked_answer, read_answer, read_buffer}
 use Rattle.drivers.specs.Changes.{with_block, with_lock, write_answer, write_tag, lock_answer, lock_tag}
 use Rattle.drivers.specs.Layers.{window_tag, told_at}
 use Rattle.drivers.proofs.Granted.{cond_of}

@@ -1,5 +1,5 @@
 -- What a driver answers to a change, and what tag it then means.
-use Rattle.std.specs.Prelude.{ℕ, Bool, true, cond, List, length, set, is_ok, Ok, Err, Result, ◌==◌, nat_lt, slice_set}
+use Rattle.std.specs.Prelude.{ℕ, true, cond, List, length, is_ok, Ok, Err, Result, ◌==◌, nat_lt, slice_set}
 use Rattle.tags.specs.Tags.{Tag}
 use Rattle.drivers.specs.declared.faults.DriverFault.{DriverFault}
 use Rattle.drivers.specs.declared.faults.DriverFault.TheVariants.{NoBlock, WrongBuffer, Locked}

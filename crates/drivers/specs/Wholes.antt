@@ -1,5 +1,5 @@
 -- A tag read whole, into the front of an image.
-use Rattle.std.specs.Prelude.{ℕ, ◌*◌, Bool, cond, List, ◌++◌, length, drop, Ok, Err, Result, nat_lt}
+use Rattle.std.specs.Prelude.{ℕ, ◌*◌, cond, List, ◌++◌, length, drop, Ok, Err, Result, nat_lt}
 use Rattle.tags.specs.Tags.{Tag, bytes}
 use Rattle.drivers.specs.declared.faults.WholeFault.{WholeFault}
 use Rattle.drivers.specs.declared.faults.WholeFault.TheVariants.{Room}

@@ -1,4 +1,6 @@
 // What every driver of a tag is: an interface whose meaning is a tag.
+#![tactic(auto)]
+
 ghost use Rattle.std.specs.Prelude.{◌≡◌, length};
 ghost use Rattle.tags.specs.Tags.{Tag, Shaped};
 ghost use Rattle.drivers.specs.Questions.{system_answer, locked_answer, read_answer, read_buffer};

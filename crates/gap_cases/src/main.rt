@@ -1,4 +1,6 @@
 // Lays out gaps whose bytes were worked out by hand, and prints them.
+#![tactic(auto)]
+
 use codes::Kind;
 use layout::{Behind, Item, LayoutFault, lay_out, lay_ready};
 use std::io;

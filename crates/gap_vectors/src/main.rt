@@ -3,6 +3,8 @@
 // A line is `CALL BEHIND BLOCK READY BEFORE AFTER` and then `IDENTIFIER KIND OBJECT` of each item: BEHIND is `locked` or
 // `end`, READY the place of the readied item or `-`, BEFORE and AFTER the bytes of the gap, AFTER `small` where the call
 // was refused for want of room. Bytes are hexadecimal, `-` is none.
+#![tactic(auto)]
+
 use anyhow::{Context, anyhow};
 use codes::Kind;
 use layout::{Behind, Item, LayoutFault, lay_out, lay_ready};

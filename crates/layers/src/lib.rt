@@ -1,4 +1,6 @@
 // Any number of layers in any order over a driver, as one window, one byte order and one bit order.
+#![tactic(auto)]
+
 pub mod either;
 pub mod piled;
 pub mod piles;

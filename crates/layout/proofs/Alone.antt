@@ -1,20 +1,18 @@
 -- A gap with a readied set suits its memory, and the set stands alone on whole blocks.
-use Rattle.std.proofs.Common.{◌≡◌, ℕ, zero, suc, ◌+◌, ◌-◌, ◌*◌, ◌%◌, ◌<◌, ◌≤◌, min, false, ◌⊎◌, List, [], ◌∷◌, ◌++◌, map, length, get_or, take, drop, replicate, Ok, sym, refl, ap, ◌∙◌, subst, inl, inr, ⊎_elim, append_assoc, append-nil, mod-lt, mod-eq_of_lt, arith, length-append}
+use Rattle.std.proofs.Common.{◌≡◌, ℕ, zero, suc, ◌+◌, ◌-◌, ◌*◌, ◌%◌, ◌<◌, ◌≤◌, min, List, [], ◌∷◌, ◌++◌, map, length, take, drop, replicate, sym, refl, ap, ◌∙◌, subst, inl, inr, ⊎_elim, append_assoc, mod-lt, mod-eq_of_lt, arith, length-append}
 use mathlib.Core.Path.{transport}
-use native.Mathlib.Nat.{add-mul-mod_self_right, mul-add-mod_self_right, mod_self, mod-add-mod}
-use Rattle.std.specs.Int.Digits.{AllBelowBase}
+use native.Mathlib.Nat.{mul-add-mod_self_right, mod_self, mod-add-mod}
 use Rattle.std.specs.List.{AllByRecursion as All}
 use Rattle.std.proofs.lemmas.Bool.{cases_lt, cases_eq}
 use Rattle.std.proofs.ByRecursion.{All-append, All-take, All-drop, All-get_or}
-use Rattle.sets.specs.Sets.{Set, Tile, filler, holds, size, content}
-use Rattle.sets.specs.Scans.{Found, placed}
+use Rattle.sets.specs.Sets.{Set, Tile, filler, holds, size}
+use Rattle.sets.specs.Scans.{placed}
 use Rattle.sets.specs.Objects.{unpacked}
 use Rattle.sets.specs.Tilings.{span, Tiled}
 use Rattle.sets.specs.Layouts.{laid, Layable}
-use Rattle.sets.specs.Readings.{Memory, Entry, Reading, found, entry, reads}
+use Rattle.sets.specs.Readings.{Memory, Reading, entry}
 use Rattle.sets.proofs.Laying.{laid-tiles}
 use Rattle.sets.proofs.Tilings.{placed-append}
-use Rattle.rivals.specs.Memories.{Shaped, Gap}
 use Rattle.rivals.specs.Relaid.{relaid, open_entries, Suits, Relaid, sets_before, sets_from}
 use Rattle.rivals.specs.Rooms as rooms
 use Rattle.rivals.specs.Promises.{gap_before, gap_behind}
@@ -22,11 +20,11 @@ use Rattle.rivals.proofs.Anew.{gap-laid_anew}
 use Rattle.rivals.proofs.Promised.{readied_needs}
 use Rattle.layout.specs.declared.items.Behind.{Behind}
 use Rattle.layout.specs.declared.items.Behind.TheVariants.{Locked, End}
-use Rattle.layout.specs.Plans.{Wanted, Fit, formed, least, total, run, taken, locked_plan, to_block, whole, ready_need, nothing, nth}
-use Rattle.layout.specs.Lays.{laid_gap, three_parts, readied_gap}
-use Rattle.layout.specs.Anew.{entry_of, Stands, NowReads, OnBlocks, ReadyReads, ReadyRivals}
+use Rattle.layout.specs.Plans.{Wanted, Fit, formed, least, total, run, locked_plan, to_block, whole, ready_need, nothing, nth}
+use Rattle.layout.specs.Lays.{laid_gap, readied_gap}
+use Rattle.layout.specs.Anew.{entry_of, Stands, OnBlocks, ReadyReads, ReadyRivals}
 use Rattle.layout.proofs.Runs.{laid-append, more-extra}
-use Rattle.layout.proofs.Readying.{total-one, total-parts}
+use Rattle.layout.proofs.Readying.{total-one}
 use Rattle.layout.proofs.Anews.{gap-long, plan_layable, run_layable, plan_says, says-append, tiles, tiles_say, zeros-end, now-reads, form-told, total-same}
 
 -- a list around one of its items

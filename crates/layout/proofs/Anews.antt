@@ -1,20 +1,16 @@
 -- A gap laid out anew suits its memory.
-use Rattle.std.proofs.Common.{◌≡◌, ℕ, zero, suc, ◌+◌, ◌-◌, ◌*◌, ◌<◌, ◌≤◌, Bool, true, false, ◌⊎◌, List, [], ◌∷◌, ◌++◌, map, length, replicate, Ok, sym, refl, ap, ◌∙◌, subst, inl, inr, append-nil, arith, length-append}
+use Rattle.std.proofs.Common.{◌≡◌, ℕ, zero, suc, ◌+◌, ◌-◌, ◌*◌, ◌≤◌, false, List, [], ◌∷◌, ◌++◌, map, length, replicate, Ok, refl, ap, ◌∙◌, subst, inl, inr, append-nil, arith, length-append}
 use lib.ListN.{length-replicate}
-use Rattle.std.specs.Int.Digits.{AllBelowBase}
 use Rattle.std.specs.List.{AllByRecursion as All}
 use Rattle.std.proofs.ByRecursion.{All-append}
-use Rattle.codes.specs.declared.kind.Kind.{Kind}
-use Rattle.codes.specs.Numbers.{kind_number}
 use Rattle.packing.proofs.Choosing.{kind-below}
 use Rattle.sets.specs.Sets.{Tile, filler, holds}
 use Rattle.sets.specs.Objects.{unpacked}
-use Rattle.sets.specs.Tilings.{Tiled, Ended}
+use Rattle.sets.specs.Tilings.{Ended}
 use Rattle.sets.specs.Layouts.{laid, Layable}
 use Rattle.sets.specs.Readings.{Memory, Entry, Reading, reads}
 use Rattle.sets.proofs.Laying.{laid-tiles}
 use Rattle.writing.proofs.Formed.{form_writable}
-use Rattle.rivals.specs.Memories.{Shaped, Rival, Gap, gap_entries}
 use Rattle.rivals.specs.Rooms as rooms
 use Rattle.rivals.specs.Relaid.{relaid, list_around, Distinct, open_entries, Suits, Relaid}
 use Rattle.rivals.proofs.Fits.{form-says}

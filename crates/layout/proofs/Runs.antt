@@ -1,10 +1,10 @@
 -- Tiles of a gap, as they are put one after another.
-use Rattle.std.proofs.Common.{◌≡◌, ℕ, zero, suc, ◌+◌, ◌-◌, ◌<◌, ◌≤◌, min, Bool, true, false, cond, ltb, List, [], ◌∷◌, ◌++◌, map, length, get_or, take, drop, replicate, Err, sym, refl, ap, ◌∙◌, subst, ⊎_elim, append_assoc, append-nil, zero-add, arith, length-append, length-drop}
+use Rattle.std.proofs.Common.{◌≡◌, ℕ, zero, suc, ◌+◌, ◌-◌, ◌<◌, ◌≤◌, min, cond, ltb, List, [], ◌∷◌, ◌++◌, map, length, get_or, take, drop, replicate, Err, sym, refl, ap, ◌∙◌, subst, ⊎_elim, append_assoc, append-nil, arith, length-append, length-drop}
 use borrow.Rule.Slice.PartMut.{put_mid}
 use lib.ListN.{length-replicate}
 use Rattle.std.specs.List.{AllByRecursion as All}
 use Rattle.std.proofs.lemmas.Bool.{cases_Bool, ltb-true, ltb-false, cond-true, cond-false, cond_both}
-use Rattle.std.proofs.lemmas.List.{length-map, take_more, take_all, drop_all, drop-drop, take-append-drop, length-take-le}
+use Rattle.std.proofs.lemmas.List.{length-map, take_more, take_all, drop_all, drop-drop, take-append-drop}
 use Rattle.std.proofs.ByRecursion.{All-get_or}
 use Rattle.codes.specs.Numbers.{kind_number}
 use Rattle.sets.specs.Sets.{Tile, filler, holds, size}

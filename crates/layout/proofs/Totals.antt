@@ -1,5 +1,5 @@
 -- Sums of smallest forms, item by item.
-use Rattle.std.proofs.Common.{◌≡◌, ℕ, zero, suc, ◌+◌, ◌-◌, ◌<◌, ◌≤◌, true, false, cond, eqb, ltb, List, [], ◌∷◌, ◌++◌, map, length, get_or, take, drop, Err, sym, refl, ap, ◌∙◌, subst, arith}
+use Rattle.std.proofs.Common.{◌≡◌, ℕ, zero, suc, ◌+◌, ◌<◌, ◌≤◌, cond, eqb, ltb, List, [], ◌∷◌, ◌++◌, map, length, get_or, take, Err, sym, ap, ◌∙◌, subst, arith}
 use Rattle.std.specs.List.{AllByRecursion as All}
 use Rattle.std.proofs.lemmas.List.{length-map, get_or-map, get_or_default, take_more, take_all}
 use Rattle.std.proofs.ByRecursion.{All-push}
@@ -7,7 +7,7 @@ use Rattle.std.proofs.lemmas.Bool.{cond_both}
 use Rattle.codes.specs.declared.kind.Kind.TheVariants.{Application}
 use Rattle.codes.specs.Numbers.{kind_number}
 use Rattle.codes.specs.Table.{packed_code, first_code}
-use Rattle.sets.specs.Sets.{Name, bare, byte, led, name_size, long}
+use Rattle.sets.specs.Sets.{bare, byte, led, name_size, long}
 use Rattle.sets.specs.Writing.{shortest}
 use Rattle.writing.specs.declared.faults.WriteFault.{WriteFault}
 use Rattle.writing.specs.declared.faults.WriteFault.TheVariants.{Identifier, Size, Extra, Short}

@@ -1,5 +1,5 @@
 -- What a gap holds after its layout, and when there is none.
-use Rattle.std.specs.Prelude.{◌≡◌, ℕ, suc, ◌+◌, ◌-◌, ◌<◌, ◌≤◌, ◌⊎◌, List, [], ◌∷◌, ◌++◌, map, length, take, drop, replicate, Ok, Err, Result, slice_index_or}
+use Rattle.std.specs.Prelude.{◌≡◌, ℕ, suc, ◌+◌, ◌-◌, ◌<◌, ◌≤◌, ◌⊎◌, List, [], ◌∷◌, ◌++◌, length, take, drop, replicate, Ok, Err, Result, slice_index_or}
 use Rattle.std.specs.List.{AllByRecursion as All}
 use Rattle.sets.specs.Layouts.{laid}
 use Rattle.layout.specs.declared.items.Item.{Item}

@@ -1,6 +1,5 @@
 -- The tiles of a gap that is laid out: sets in smallest form from its start, what is left over behind them.
-use Rattle.std.specs.Prelude.{◌≡◌, ℕ, ◌+◌, ◌-◌, ◌%◌, min, cond, List, [], ◌∷◌, ◌++◌, map, length, replicate, slice_index_or}
-use Rattle.std.specs.List.{AllByRecursion as All}
+use Rattle.std.specs.Prelude.{ℕ, ◌+◌, ◌-◌, ◌%◌, min, List, [], ◌∷◌, ◌++◌, replicate, slice_index_or}
 use Rattle.codes.specs.declared.kind.Kind.{Kind}
 use Rattle.codes.specs.declared.kind.Kind.TheVariants.{Application}
 use Rattle.codes.specs.Numbers.{kind_number}

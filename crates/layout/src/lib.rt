@@ -1,4 +1,6 @@
 // The layout of a gap: which bytes it holds once its sets are laid out anew.
+#![tactic(auto)]
+
 mod gaps;
 mod items;
 mod ready;

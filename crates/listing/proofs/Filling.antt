@@ -1,5 +1,5 @@
 -- A quotient by twice the total is the nearest per cent.
-use Rattle.std.proofs.Common.{◌≡◌, ℕ, ◌+◌, ◌*◌, ◌/◌, ◌<◌, ◌≤◌, min, eqb, sym, ap, ◌∙◌, div-lt_iff_lt-mul, div-mul-le_self, arith}
+use Rattle.std.proofs.Common.{◌≡◌, ℕ, ◌+◌, ◌*◌, ◌/◌, ◌<◌, ◌≤◌, min, eqb, sym, div-lt_iff_lt-mul, div-mul-le_self, arith}
 use Rattle.std.proofs.lemmas.Bool.{ne_eqb, cond-false}
 use Rattle.listing.specs.Fills.{percent, Nearest}
 

@@ -1,4 +1,6 @@
 // The order layers: a driver over any driver, each block turned.
+#![tactic(auto)]
+
 ghost use Rattle.std.specs.Prelude.{◌≡◌, ℕ, ◌≤◌, List, length, take};
 ghost use Rattle.drivers.specs.Layers.{turn_tag, by_bytes, by_bits, Alike};
 ghost use Rattle.orders.specs.Shows.{shown};

@@ -1,4 +1,6 @@
 // Packing and unpacking: one text for every code, bound by the interface `Code`.
+#![tactic(auto)]
+
 ghost use Rattle.std.specs.Prelude.{◌≡◌, ℕ, ◌+◌, ◌-◌, ◌*◌, ◌/◌, ◌%◌, ◌^◌, ◌<◌, ◌≤◌, true, List, [], ◌∷◌, ◌++◌, length, take, Result, slice_index};
 ghost use Rattle.std.specs.Int.Digits.{AllBelowBase};
 ghost use Rattle.codes.specs.declared.fault.Fault.{Fault};

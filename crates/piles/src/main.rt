@@ -1,4 +1,6 @@
 // Piles of layers over both tags, asked and changed block by block; what it prints is compared.
+#![tactic(auto)]
+
 mod declines;
 mod exercise;
 

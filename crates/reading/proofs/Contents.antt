@@ -1,12 +1,12 @@
 -- Identifiers by the records of their sets.
-use Rattle.std.proofs.Common.{◌≡◌, ℕ, zero, suc, ◌+◌, ◌<◌, ◌≤◌, Bool, true, false, cond, ◌&&◌, ◌||◌, eqb, List, [], ◌∷◌, ◌++◌, map, length, get_or, take, drop, Some, None, Decides, sym, refl, ap, ◌∙◌, subst, ⊎_elim, arith, length-drop}
+use Rattle.std.proofs.Common.{◌≡◌, ℕ, zero, suc, ◌+◌, ◌<◌, ◌≤◌, Bool, true, false, cond, ◌&&◌, ◌||◌, eqb, List, [], ◌∷◌, length, get_or, take, drop, Some, None, Decides, sym, refl, ap, ◌∙◌, subst, ⊎_elim, arith, length-drop}
 use Rattle.std.specs.List.{AllByRecursion as All}
 use Rattle.std.specs.Str.{bytes_eq}
 use Rattle.std.proofs.lemmas.Slice.Eq.{bytes_eq-Decides}
 use Rattle.std.proofs.ByRecursion.{All-map, All-get_or, All-take, All-weaker, has_get_or}
 use Rattle.std.proofs.lemmas.List.{drop_more, length-take-le, take_more, take_all, take-map}
 use Rattle.std.proofs.lemmas.Bool.{eq-eqb, ne_eqb, cond-true, cond-false, cases_Bool, or_from}
-use Rattle.sets.specs.Sets.{Name, bare, byte, led, content, number, part, name_at, name_size, long, offset_size, size, holds}
+use Rattle.sets.specs.Sets.{Name, bare, byte, led, content, number, part, name_at, name_size, long, offset_size, holds}
 use Rattle.sets.specs.Parsing.{tile, parse}
 use Rattle.sets.specs.Scans.{next, Found, behind}
 use Rattle.sets.specs.Objects.{unpacked}

@@ -1,5 +1,5 @@
 -- The entry of a set from what its step shows and its code says.
-use Rattle.std.proofs.Common.{◌≡◌, ℕ, ◌+◌, ◌<◌, ◌≤◌, Bool, ◌⊎◌, List, ◌++◌, length, take, drop, Ok, Err, Result, sym, refl, ap, ◌∙◌, subst, inl, inr, arith, length-append}
+use Rattle.std.proofs.Common.{◌≡◌, ℕ, ◌<◌, ◌≤◌, Bool, ◌⊎◌, List, length, take, drop, Ok, Err, Result, sym, refl, ap, ◌∙◌, subst, inr, arith, length-append}
 use Rattle.std.proofs.lemmas.List.{take_at}
 use Rattle.codes.specs.declared.fault.Fault.{Fault}
 use Rattle.codes.specs.Table.{unpacked_code}
@@ -11,11 +11,9 @@ use Rattle.sets.specs.Sets.{Set, Tile, filler, holds, size}
 use Rattle.sets.specs.Parsing.{Flaw, Step, end, tile, wrong, parse}
 use Rattle.sets.specs.Scans.{Unpack, examined, checked, next}
 use Rattle.sets.specs.Objects.{flawed, unpacked}
-use Rattle.sets.specs.Readings.{Memory, said, sealed, entry}
-use Rattle.scan.specs.declared.views.SetRecord.{SetRecord}
+use Rattle.sets.specs.Readings.{said}
 use Rattle.scan.specs.declared.views.SetView.{SetView}
 use Rattle.scan.specs.Views.{set_of, recorded}
-use Rattle.reading.specs.Checks.{memory}
 use Rattle.reading.specs.Inner.{locked_run}
 
 -- a set that stands there has an object

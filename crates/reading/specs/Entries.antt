@@ -1,8 +1,8 @@
 -- What the entry of a set shows.
-use Rattle.std.specs.Prelude.{◌≡◌, ℕ, ◌<◌, ◌⊎◌, List, length, drop, Some, None, Option}
+use Rattle.std.specs.Prelude.{◌≡◌, ℕ, ◌<◌, ◌⊎◌, length, drop, Some, None, Option}
 use Rattle.sets.specs.Sets.{Set, content, holds}
 use Rattle.sets.specs.Parsing.{tile}
-use Rattle.sets.specs.Scans.{next, Found}
+use Rattle.sets.specs.Scans.{next}
 use Rattle.sets.specs.Objects.{unpacked}
 use Rattle.sets.specs.Readings.{Memory, sealed, entry}
 use Rattle.scan.specs.Views.{name_of, recorded}

@@ -1,4 +1,6 @@
 // Whether a memory reads as a list of sets: the scan, then its locks, then its identifiers.
+#![tactic(auto)]
+
 mod blocks;
 mod checks;
 mod entries;

@@ -1,4 +1,6 @@
 // The rehearsal tag: a driver that only reads its dump, and keeps what is changed in a table.
+#![tactic(auto)]
+
 ghost use Rattle.std.specs.Prelude.{◌≡◌, length, Some, None, MatchResult};
 ghost use Rattle.tags.specs.Dumps.{dump_means};
 ghost use Rattle.tags.proofs.Meant.{dump_shaped};

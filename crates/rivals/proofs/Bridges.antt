@@ -6,7 +6,7 @@ use Rattle.std.proofs.lemmas.List.{drop_at, drop-drop}
 use Rattle.std.proofs.lemmas.Bool.{cases_Bool, both_ways, cases_lt, lt-ltb, le-leb, leb-true, ltb-true, and_left, and_right, and_from, and_parts, not_from_false, not_from_true, or_cases, or_left, or_right}
 use Rattle.sets.specs.Sets.{Tile, filler, holds, size, wide}
 use Rattle.sets.specs.Parsing.{tile}
-use Rattle.sets.specs.Scans.{next, Refusal, clean, scan, Found, placed, behind, used_from}
+use Rattle.sets.specs.Scans.{next, Refusal, clean, scan, Found, placed, used_from}
 use Rattle.sets.specs.Tilings.{Tiled, Ended, Halts}
 use Rattle.sets.specs.Objects.{unpacked}
 use Rattle.sets.specs.Readings.{Memory, Reading, lowest, any, found, locked_at, sealed, byte_of, stray, stray_block, identified, repeat, entry, judged, reads}

@@ -18,7 +18,7 @@ use Rattle.sets.specs.Writing.{shortest}
 use Rattle.sets.specs.Laws.{Proper, Fitting}
 use Rattle.sets.specs.Scans.{next, Found}
 use Rattle.sets.specs.Objects.{unpacked, flawed}
-use Rattle.sets.specs.Readings.{Memory, found, sealed, said, entry}
+use Rattle.sets.specs.Readings.{Memory, found, said, entry}
 use Rattle.sets.proofs.Fronts.{front}
 use Rattle.sets.proofs.Written.{smallest-back}
 use Rattle.sets.proofs.Repeats.{next-parse, found-next}

@@ -3,7 +3,7 @@ use Rattle.std.proofs.Common.{◌≡◌, ℕ, zero, suc, ◌+◌, ◌-◌, ◌*�
 use native.Mathlib.Nat.{lt-div-mul-add}
 use Rattle.std.proofs.lemmas.Bool.{both_ways, cases_lt, cond-true, cond-false}
 use Rattle.std.proofs.lemmas.Nat.{div_below}
-use Rattle.sets.specs.Sets.{Set, Tile, holds, long}
+use Rattle.sets.specs.Sets.{Set, Tile, holds}
 use Rattle.sets.specs.Readings.{Memory, Entry, locked_at}
 use Rattle.rivals.specs.Memories.{Shaped, Rival, Gap, below}
 use Rattle.rivals.specs.Rooms.{least, total, part, seal_count, after_last, whole}
@@ -15,7 +15,6 @@ use Rattle.rivals.proofs.Parts.{Reached, reach, set_by, fits, opens-are, last-us
 use Rattle.rivals.proofs.Readied.{whole_shift, readied_fits}
 use Rattle.rivals.proofs.Blocks.{Run, run_of, past_end, gap-order, gap-clear, gap_first, gap-start, gap-stop, gap-around}
 use Rattle.rivals.proofs.Places.{below-same, count-front, walk-behind}
-use Rattle.rivals.proofs.Bridges.{around}
 use Rattle.rivals.proofs.Runs.{spread}
 
 -- the walk over a whole memory

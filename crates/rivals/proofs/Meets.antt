@@ -20,7 +20,6 @@ use Rattle.sets.proofs.Repeats.{next-parse}
 use Rattle.sets.proofs.Tilings.{next-front}
 use Rattle.rivals.specs.Rooms.{least}
 use Rattle.rivals.proofs.Format.{Format}
-use Rattle.rivals.proofs.Runs.{cut}
 
 -- a set at the front of memory: what it is for codes
 code_body : (p : ℕ) (bs rest : List ℕ) (s : Set) → body p bs ≡ got s rest → s.code ≡ p / 16 % 8

@@ -3,7 +3,6 @@ use Rattle.std.proofs.Common.{◌≡◌, ℕ, zero, suc, ◌+◌, ◌-◌, ◌<�
 use Rattle.std.proofs.lemmas.Bool.{cases_Bool, both_ways, cases_lt, cases_eq, cond-true, cond-false, lt-ltb, le-ltb, lt-leb, le-leb, and_left, and_right, and_from, not_from_false}
 use Rattle.sets.specs.Sets.{Set, Tile, filler, holds}
 use Rattle.sets.specs.Scans.{Found}
-use Rattle.sets.specs.Parsing.{end}
 use Rattle.sets.specs.Readings.{Entry}
 use Rattle.rivals.specs.Memories.{below}
 use Rattle.rivals.specs.Rooms.{total, part, seal_count}

@@ -3,9 +3,7 @@ use Rattle.std.proofs.Common.{◌≡◌, ℕ, zero, ◌+◌, ◌-◌, ◌*◌, �
 use native.Mathlib.Nat.{mul-add-div_right, mod_self}
 use Rattle.std.proofs.lemmas.Bool.{cases_Bool, cases_eq, cond-true, cond-false}
 use Rattle.std.proofs.lemmas.Nat.{le-div, div-add-mod', div-mul-add, mod_below}
-use Rattle.sets.specs.Sets.{Tile, filler, holds, size}
-use Rattle.sets.specs.Parsing.{identifier}
-use Rattle.sets.specs.Scans.{next}
+use Rattle.sets.specs.Sets.{Tile, filler, holds}
 use Rattle.sets.specs.Readings.{Entry}
 use Rattle.rivals.specs.Rooms.{least, total, part, whole}
 use Rattle.rivals.proofs.Format.{Format, shown, shut, listed, Whole}

@@ -4,8 +4,7 @@ use Rattle.std.specs.Int.Digits.{AllBelowBase}
 use Rattle.std.proofs.lemmas.List.{length-take-le, get_or-take, get_or-drop, get_or_past, get_or_append_left, drop_at, take_at, drop-drop, drop_all}
 use Rattle.std.proofs.ByRecursion.{All-append, All-take, All-drop}
 use Rattle.std.proofs.lemmas.Bool.{both_ways, cases_lt}
-use Rattle.sets.specs.Sets.{Tile, filler, holds, long}
-use Rattle.sets.specs.Scans.{behind}
+use Rattle.sets.specs.Sets.{Tile, filler, holds}
 use Rattle.sets.specs.Readings.{Memory, Entry, locked_at}
 use Rattle.rivals.specs.Memories.{Rival}
 use Rattle.rivals.specs.Rooms.{part}

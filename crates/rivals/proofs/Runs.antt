@@ -4,7 +4,7 @@ use Rattle.std.proofs.lemmas.List.{drop-drop, drop-take, take-take, drop-append-
 use Rattle.std.proofs.lemmas.Bool.{cases_Bool, both_ways, cond-false, lt-leb, and_left}
 use Rattle.sets.specs.Sets.{Tile, filler, holds}
 use Rattle.sets.specs.Parsing.{tile}
-use Rattle.sets.specs.Scans.{next, behind}
+use Rattle.sets.specs.Scans.{behind}
 use Rattle.sets.specs.Readings.{Entry}
 use Rattle.rivals.specs.Rooms.{part}
 use Rattle.rivals.proofs.Format.{Format, shown, width, Along, Border, shut, Covered, listed, after_sets, opens}

@@ -4,7 +4,6 @@ use Rattle.std.proofs.lemmas.List.{length-take, get_or-take, get_or-drop, ext_ge
 use Rattle.std.proofs.lemmas.Bool.{cases_Bool, both_ways, cases_lt, cond-true, cond-false}
 use Rattle.sets.specs.Sets.{Set, Tile, filler, holds}
 use Rattle.sets.specs.Parsing.{end, tile}
-use Rattle.sets.specs.Readings.{found}
 use Rattle.rivals.proofs.Format.{Format, shut, sealed_sets}
 use Rattle.rivals.proofs.Walks.{sealed-each, Walk, walk_end, filler_on, filler_open, set_on, set_open, set-some}
 

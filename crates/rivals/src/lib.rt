@@ -1,4 +1,6 @@
 // What a gap has room for, and why no rival of a memory does better: laws about every memory with the same locked blocks.
+#![tactic(auto)]
+
 ghost use Rattle.std.specs.Prelude.{◌≡◌, ◌+◌, ◌-◌, ◌*◌, nat_le};
 ghost use Rattle.rivals.specs.Rooms.{whole, EntriesFit, FormSays};
 ghost use Rattle.rivals.specs.Promises.{OpenInGap, SealsAlike, GapIsPart, GapsAlike, LastIsRest, Room, NoRoom, NoRoomToPut, NoRoomToChange, MostFree, ReadiedNeeds};

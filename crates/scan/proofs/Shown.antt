@@ -1,5 +1,5 @@
 -- What is so of a set that a step shows.
-use Rattle.std.proofs.Common.{◌≡◌, ℕ, ◌+◌, ◌≤◌, List, ◌++◌, length, take, drop, Ok, sym, ap, ◌∙◌, subst, arith}
+use Rattle.std.proofs.Common.{◌≡◌, ℕ, ◌≤◌, List, ◌++◌, take, drop, Ok, sym, ap, ◌∙◌, arith}
 use Rattle.std.specs.Int.Digits.{AllBelowBase}
 use Rattle.sets.specs.Sets.{holds, size}
 use Rattle.sets.specs.Sets as sets
@@ -11,7 +11,7 @@ use Rattle.sets.proofs.Least.{shows-least}
 use Rattle.sets.proofs.Places.{set-within, set-alone}
 use Rattle.scan.specs.declared.views.SetRecord.{SetRecord}
 use Rattle.scan.specs.declared.views.SetView.{SetView}
-use Rattle.scan.specs.Views.{name_of, set_of, recorded, Shown}
+use Rattle.scan.specs.Views.{set_of, recorded, Shown}
 
 pub shown : (xs : List ℕ) (at : ℕ) (v : SetView) (o : List ℕ) → tile (holds (set_of v)) ≡ parse (drop at xs) → v.place ≡ recorded at (set_of v) → unpacked v.place.code v.object.now ≡ Ok o → v.place.code ≤ 7 → AllBelowBase 256 xs → Shown xs at v
 shown xs at v o e place good code under =

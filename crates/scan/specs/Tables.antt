@@ -1,6 +1,5 @@
 -- What a scan of an image answers, and what it leaves in the table.
 use Rattle.std.specs.Prelude.{◌≡◌, ℕ, ◌/◌, Bool, cond, List, ◌++◌, map, length, drop, Some, None, Ok, Err, Option, Result, nat_lt}
-use Rattle.sets.specs.Sets.{Tile}
 use Rattle.sets.specs.Parsing.{plain}
 use Rattle.sets.specs.Scans.{Refusal, scan, Found, free}
 use Rattle.sets.specs.Tilings.{Tiled, Halts}

@@ -1,4 +1,6 @@
 // The scan of an image: what stands at an address, as parts of the image, and the table of all sets.
+#![tactic(auto)]
+
 mod faults;
 mod parts;
 mod steps;

@@ -1,12 +1,11 @@
 -- A set part by part, at an address of a memory.
-use Rattle.std.proofs.Common.{◌≡◌, ℕ, suc, ◌+◌, ◌-◌, ◌*◌, ◌/◌, ◌%◌, ◌<◌, ◌≤◌, Bool, true, false, cond, eqb, ltb, List, [], ◌∷◌, ◌++◌, length, get_or, take, drop, sym, refl, ap, ◌∙◌, arith, length-append, length-drop}
-use Rattle.std.proofs.lemmas.List.{length-take-le, at_drop_more, at_drop_all}
+use Rattle.std.proofs.Common.{◌≡◌, ℕ, ◌+◌, ◌-◌, ◌%◌, ◌<◌, ◌≤◌, cond, eqb, List, ◌∷◌, length, get_or, take, drop, sym, ap, ◌∙◌, arith, length-append, length-drop}
+use Rattle.std.proofs.lemmas.List.{at_drop_more, at_drop_all}
 use Rattle.std.proofs.lemmas.Bool.{eq-eqb, ne_eqb, cond-true, cond-false}
-use Rattle.sets.specs.Sets.{Name, bare, byte, led, number, part, name_size, long, offset_size, name_at, object_at, size, filler, holds}
-use Rattle.sets.specs.Parsing.{plain, Step, end, tile, wrong, Read, got, bad, then, run, offset, identifier, size_of_object, body, told, parse}
-use Rattle.sets.specs.Laws.{Fitting}
+use Rattle.sets.specs.Sets.{Name, name_size, long, offset_size, filler}
+use Rattle.sets.specs.Parsing.{plain, Step, end, tile, wrong, Read, got, bad, then, offset, identifier, size_of_object, body, told, parse}
 use Rattle.sets.proofs.Parts.{Owned, offset_owned, identifier_owned, length_owned}
-use Rattle.sets.proofs.Fronts.{made, pad_on, object_on, length_on, name_on, offset-pad, is_set, is-filler, is-end}
+use Rattle.sets.proofs.Fronts.{made, pad_on, object_on, length_on, name_on, is_set, is-filler, is-end}
 use Rattle.sets.proofs.Here.{run_here, run_past}
 
 -- the parts, one after the other

@@ -1,12 +1,11 @@
 -- Borders of locked runs are borders of tiles.
-use Rattle.std.proofs.Common.{◌≡◌, ℕ, ◌+◌, ◌*◌, ◌<◌, ◌≤◌, Bool, false, ◌⊎◌, List, get_or, inl, inr, ⊎_elim, add-mul, one-mul, arith}
-use Rattle.std.specs.List.{AllByRecursion as All}
+use Rattle.std.proofs.Common.{◌≡◌, ℕ, ◌+◌, ◌*◌, Bool, false, List, get_or, inl, inr, ⊎_elim, add-mul, one-mul, arith}
 use Rattle.std.proofs.ByRecursion.{All-weaker}
 use Rattle.std.proofs.lemmas.Bool.{cases_lt}
 use Rattle.sets.specs.Sets.{size}
 use Rattle.sets.specs.Scans.{Found}
 use Rattle.sets.specs.Layouts.{Apart}
-use Rattle.sets.specs.Blocks.{Touches, Unmixed, Borders}
+use Rattle.sets.specs.Blocks.{Unmixed, Borders}
 
 across : (b : ℕ) (locks : List Bool) (k : ℕ) (f : Found) → Unmixed b locks f → (get_or locks k false ≡ get_or locks (k + 1) false → ⊥) → Apart ((k + 1) * b) f
 across b locks k f same differ =

@@ -1,12 +1,12 @@
 -- A tile depends on its own bytes only, and has no fewer than its smallest form.
-use Rattle.std.proofs.Common.{◌≡◌, ℕ, zero, suc, ◌+◌, ◌-◌, ◌*◌, ◌/◌, ◌%◌, ◌<◌, ◌≤◌, Bool, true, false, cond, eqb, ltb, leb, List, [], ◌∷◌, ◌++◌, length, take, drop, sym, refl, ap, ◌∙◌, subst, arith, length-append}
+use Rattle.std.proofs.Common.{◌≡◌, ℕ, zero, suc, ◌+◌, ◌-◌, ◌/◌, ◌%◌, ◌≤◌, Bool, true, false, cond, eqb, ltb, List, [], ◌∷◌, ◌++◌, length, take, sym, refl, ap, ◌∙◌, subst, arith, length-append}
 use Rattle.std.proofs.lemmas.List.{take_at}
 use Rattle.std.proofs.lemmas.Bool.{eqb-true, eqb-false, ne_eqb, lt-ltb, le-ltb, cond-true, cond-false, cond_both}
 use Rattle.sets.specs.Sets.{Name, bare, byte, led, content, name_size, Set, Tile, filler, holds, long, offset_size, size, wide}
-use Rattle.sets.specs.Parsing.{Flaw, Step, end, tile, wrong, Read, got, bad, then, one, run, offset, identifier, size_of_object, body, told, parse}
-use Rattle.sets.specs.Writing.{shortest, smallest}
-use Rattle.sets.specs.Laws.{Proper, Fitting, OwnBytes, Floor}
-use Rattle.sets.proofs.Parts.{Takes, Owned, then-parts, then_owned, got_owned, run_owned, offset_owned, identifier_owned, length_owned}
+use Rattle.sets.specs.Parsing.{Step, end, tile, wrong, Read, got, bad, then, run, offset, identifier, size_of_object, body, told, parse}
+use Rattle.sets.specs.Writing.{shortest}
+use Rattle.sets.specs.Laws.{Fitting, OwnBytes, Floor}
+use Rattle.sets.proofs.Parts.{Owned, then-parts, then_owned, got_owned, run_owned, offset_owned, identifier_owned, length_owned}
 
 -- a set as far as it is read
 abbrev pub made : ℕ → ℕ → Name → List ℕ → Set

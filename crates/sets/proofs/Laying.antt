@@ -1,14 +1,12 @@
 -- Tiles laid out anew.
-use Rattle.std.proofs.Common.{◌≡◌, ℕ, zero, suc, ◌+◌, ◌<◌, ◌≤◌, ◌⊎◌, List, [], ◌∷◌, ◌++◌, length, take, drop, None, sym, refl, ap, ◌∙◌, subst, inl, inr, ⊎_elim, append_assoc, append-nil, zero-add, arith, length-append}
+use Rattle.std.proofs.Common.{◌≡◌, ℕ, ◌+◌, ◌≤◌, List, [], ◌∷◌, ◌++◌, take, None, sym, refl, ap, ◌∙◌, subst, ⊎_elim, append_assoc, zero-add, arith}
 use Rattle.std.specs.List.{AllByRecursion as All}
 use Rattle.std.proofs.lemmas.List.{take_at}
 use Rattle.std.proofs.lemmas.Bool.{cases_lt}
 use Rattle.sets.specs.Sets.{content, Set, Tile, filler, holds, size, wide}
-use Rattle.sets.specs.Parsing.{tile}
-use Rattle.sets.specs.Writing.{smallest, encode}
-use Rattle.sets.specs.Scans.{Unpack, examined, checked, next, Refusal, scan, Found, placed}
-use Rattle.sets.specs.Tilings.{span, Reads, Tiled, Ended}
-use Rattle.sets.specs.Laws.{Writable}
+use Rattle.sets.specs.Writing.{smallest}
+use Rattle.sets.specs.Scans.{Unpack, examined, checked, next, scan, placed}
+use Rattle.sets.specs.Tilings.{span, Reads, Tiled}
 use Rattle.sets.specs.Layouts.{written, laid, Layable, LaidTiles, GapLaid, LastLaid, SameTiles, Apart, PartAt, least_span, Room}
 use Rattle.sets.proofs.Fronts.{is-filler, floor}
 use Rattle.sets.proofs.Written.{comes_back, encoded_size}

@@ -1,15 +1,13 @@
 -- No set is shorter than the smallest form of what it shows, whatever its code.
-use Rattle.std.proofs.Common.{◌≡◌, ℕ, suc, ◌+◌, ◌<◌, ◌≤◌, Bool, true, false, cond, ltb, List, length, take, drop, Ok, Err, Result, sym, refl, ap, ◌∙◌, subst, ⊎_elim, arith}
+use Rattle.std.proofs.Common.{◌≡◌, ℕ, ◌<◌, ◌≤◌, ltb, List, length, drop, Ok, Err, Result, sym, ap, subst, ⊎_elim, arith}
 use Rattle.std.specs.Int.Digits.{AllBelowBase}
 use Rattle.std.proofs.ByRecursion.{All-take, All-drop}
 use Rattle.std.proofs.lemmas.Bool.{cases_lt, lt-ltb, le-ltb, cond-true, cond-false}
 use Rattle.codes.specs.declared.fault.Fault.{Fault}
 use Rattle.codes.specs.Table.{code, packed_code, unpacked_code, first_code}
 use Rattle.codes.proofs.Choice.{none_shorter}
-use Rattle.sets.specs.Sets.{content, name_size, Set, holds, long, size, object_at}
-use Rattle.sets.specs.Parsing.{tile, parse}
-use Rattle.sets.specs.Writing.{shortest, smallest}
-use Rattle.sets.specs.Objects.{flawed, unpacked, smallest_of}
+use Rattle.sets.specs.Sets.{holds, long, object_at}
+use Rattle.sets.specs.Objects.{flawed}
 use Rattle.sets.specs.Laws.{ShowsLeast}
 use Rattle.sets.proofs.Fronts.{front, floor}
 use Rattle.sets.proofs.Spelled.{parts_stand}

@@ -1,5 +1,5 @@
 -- What a memory reads as, by its blocks and sets.
-use Rattle.std.proofs.Common.{◌≡◌, ℕ, zero, suc, ◌+◌, ◌*◌, ◌/◌, ◌<◌, ◌≤◌, Bool, true, false, cond, not, ◌&&◌, ◌⊎◌, List, [], ◌∷◌, ◌++◌, map, length, get_or, take, drop, Some, None, Ok, Err, Option, sym, refl, ap, ◌∙◌, subst, inl, inr, ⊎_elim, append_assoc, append-nil, div-lt_iff_lt-mul, div-mul-le_self, arith, length-append}
+use Rattle.std.proofs.Common.{◌≡◌, ℕ, zero, suc, ◌+◌, ◌*◌, ◌/◌, ◌<◌, Bool, true, false, not, ◌&&◌, ◌⊎◌, List, [], ◌∷◌, ◌++◌, map, length, get_or, take, Some, None, Option, sym, refl, ap, ◌∙◌, subst, inl, inr, ⊎_elim, append_assoc, append-nil, div-lt_iff_lt-mul, div-mul-le_self, arith, length-append}
 use native.Mathlib.Nat.{div-zero}
 use Rattle.std.specs.Option.{option_map}
 use Rattle.std.specs.List.{ContainsAt as Has}
@@ -7,12 +7,11 @@ use Rattle.std.specs.Str.{bytes_eq}
 use Rattle.std.proofs.lemmas.Slice.Eq.{bytes_eq-Decides}
 use Rattle.std.proofs.ByRecursion.{all-has, has_get_or}
 use Rattle.std.proofs.lemmas.List.{length-take-le, get_or-take, get_or_append_left, get_or_at, take_at}
-use Rattle.std.proofs.lemmas.Bool.{and_from, and_left, and_parts, and_cases, cases_Bool, cases_lt, cond-true, cond-false}
-use Rattle.sets.specs.Parsing.{plain}
+use Rattle.std.proofs.lemmas.Bool.{and_parts, and_cases, cases_Bool, cases_lt, cond-true, cond-false}
 use Rattle.sets.specs.Scans.{Refusal, scan, Found}
 use Rattle.sets.specs.Objects.{unpacked}
-use Rattle.sets.specs.Readings.{Memory, Reading, any, lowest, found, locked_at, sealed, byte_of, stray, stray_block, identified, stood, repeat_from, repeat, entry, judged, reads}
-use Rattle.sets.specs.Meanings.{Lists, StrayByte, Strays, Repeats, Meant}
+use Rattle.sets.specs.Readings.{Memory, Reading, any, found, locked_at, sealed, byte_of, stray, stray_block, identified, stood, repeat_from, repeat, entry, judged, reads}
+use Rattle.sets.specs.Meanings.{StrayByte, Strays, Repeats, Meant}
 use Rattle.sets.proofs.Searching.{Lowest, lowest_cases, any-has, any_some, any-not, true-false}
 
 not-true : (b : Bool) → not b ≡ false → b ≡ true

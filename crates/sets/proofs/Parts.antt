@@ -1,10 +1,10 @@
 -- Parts of a set take their own bytes, and no others.
-use Rattle.std.proofs.Common.{◌≡◌, ℕ, zero, suc, ◌+◌, ◌-◌, ◌*◌, ◌/◌, ◌%◌, ◌<◌, ◌≤◌, Bool, true, false, cond, not, ◌&&◌, ◌||◌, eqb, ltb, leb, List, [], ◌∷◌, ◌++◌, length, take, drop, sym, refl, ap, ◌∙◌, subst, append_assoc, append-nil, arith, length-append, length-drop, length-take}
+use Rattle.std.proofs.Common.{◌≡◌, ℕ, suc, ◌+◌, ◌-◌, ◌*◌, ◌<◌, ◌≤◌, Bool, true, false, cond, ◌&&◌, ◌||◌, eqb, ltb, leb, List, [], ◌∷◌, ◌++◌, length, take, drop, sym, refl, ap, ◌∙◌, subst, append_assoc, arith, length-append}
 use Rattle.std.proofs.lemmas.List.{take_at, drop_at, take-append-drop, length-take-le}
-use Rattle.std.proofs.lemmas.Bool.{ltb-true, ltb-false, leb-true, leb-false, eqb-true, eqb-false, le-ltb, lt-ltb, cond-true, cond-false, and_parts, or_parts}
-use Rattle.sets.specs.Sets.{Name, bare, byte, led, content, name_size, Set, long, offset_size}
+use Rattle.std.proofs.lemmas.Bool.{ltb-true, ltb-false, leb-true, eqb-false, le-ltb, lt-ltb, cond-true, cond-false, and_parts, or_parts}
+use Rattle.sets.specs.Sets.{Name, bare, byte, led, name_size, long, offset_size}
 use Rattle.sets.specs.Parsing.{Read, got, bad, then, one, run, offset, arcs, whole_arcs, lead, identifier, second, first_length, size_of_object}
-use Rattle.sets.specs.Laws.{Proper, Fitting}
+use Rattle.sets.specs.Laws.{Fitting}
 
 -- a reader gives a and takes the bytes us, whatever follows them
 abbrev pub Takes : (A : Type 0) → (List ℕ → Read A) → List ℕ → A → Type 0

@@ -1,14 +1,14 @@
 -- The sets of a memory one by one: each is what stands at its address, and the first that repeats an identifier.
-use Rattle.std.proofs.Common.{◌≡◌, ℕ, suc, ◌+◌, ◌<◌, ◌≤◌, Bool, true, false, cond, List, [], ◌∷◌, ◌++◌, length, get_or, take, drop, Some, None, sym, refl, ap, ◌∙◌, subst, append_assoc, zero-add, arith}
+use Rattle.std.proofs.Common.{◌≡◌, ℕ, ◌+◌, ◌<◌, ◌≤◌, true, false, List, [], ◌∷◌, ◌++◌, length, get_or, take, drop, Some, None, sym, ap, ◌∙◌, append_assoc}
 use Rattle.std.specs.List.{AllByRecursion as All}
 use Rattle.std.proofs.lemmas.List.{take_more, drop_more, drop_all, drop_at, drop-drop}
 use Rattle.std.proofs.lemmas.Bool.{cond-true, cond-false}
-use Rattle.sets.specs.Sets.{Tile, filler, holds, size, wide}
+use Rattle.sets.specs.Sets.{Tile, filler, holds, size}
 use Rattle.sets.specs.Parsing.{tile, parse}
 use Rattle.sets.specs.Scans.{Unpack, next, scan, Found, placed}
 use Rattle.sets.specs.Tilings.{Tiled}
 use Rattle.sets.specs.Objects.{unpacked}
-use Rattle.sets.specs.Readings.{found, stood, repeat_from, repeat}
+use Rattle.sets.specs.Readings.{found, stood, repeat_from}
 use Rattle.sets.proofs.Tilings.{checked-tile, scan-tiles}
 
 -- each set is what stands at its address

@@ -1,15 +1,15 @@
 -- Runs that memories share, and bytes.
-use Rattle.std.proofs.Common.{◌≡◌, ℕ, zero, suc, ◌+◌, ◌-◌, ◌*◌, ◌/◌, ◌%◌, ◌<◌, ◌≤◌, Bool, true, false, cond, ltb, List, [], ◌∷◌, ◌++◌, length, take, drop, replicate, sym, refl, ap, ◌∙◌, subst, append_assoc, arith}
+use Rattle.std.proofs.Common.{◌≡◌, ℕ, zero, suc, ◌+◌, ◌-◌, ◌/◌, ◌%◌, ◌<◌, ◌≤◌, Bool, true, false, cond, ltb, List, [], ◌∷◌, ◌++◌, length, take, drop, replicate, sym, refl, ap, ◌∙◌, subst, append_assoc, arith}
 use Rattle.std.specs.List.{AllByRecursion as All}
 use Rattle.std.specs.Int.Digits.{AllBelowBase}
 use Rattle.std.proofs.lemmas.List.{take_at, drop_at}
 use Rattle.std.proofs.ByRecursion.{All-append}
 use Rattle.std.proofs.lemmas.Bool.{ltb-true}
-use Rattle.sets.specs.Sets.{Name, bare, byte, led, content, Set, Tile, wide, offset_size}
-use Rattle.sets.specs.Writing.{nibble, name_bytes, length_bytes, offset_bytes, encode}
-use Rattle.sets.specs.Scans.{Unpack, clean, scan, Found, placed}
+use Rattle.sets.specs.Sets.{Name, bare, byte, led, content, Tile}
+use Rattle.sets.specs.Writing.{name_bytes, length_bytes, offset_bytes, encode}
+use Rattle.sets.specs.Scans.{Unpack, clean, scan, placed}
 use Rattle.sets.specs.Tilings.{span, Tiled}
-use Rattle.sets.specs.Laws.{Fitting, Writable}
+use Rattle.sets.specs.Laws.{Fitting}
 use Rattle.sets.specs.Layouts.{Apart}
 use Rattle.sets.specs.Runs.{Between, RunAlike, WrittenBytes}
 use Rattle.sets.proofs.Written.{nibble-fits, flag}

@@ -1,9 +1,9 @@
 -- Which bytes the parts of a set are.
-use Rattle.std.proofs.Common.{◌≡◌, ℕ, zero, suc, ◌+◌, ◌-◌, ◌*◌, ◌/◌, ◌%◌, ◌<◌, ◌≤◌, Bool, true, false, cond, ◌&&◌, ◌||◌, eqb, ltb, leb, List, [], ◌∷◌, ◌++◌, length, take, drop, sym, refl, ap, ◌∙◌, subst, append_assoc, arith, length-append}
+use Rattle.std.proofs.Common.{◌≡◌, ℕ, zero, suc, ◌+◌, ◌-◌, ◌*◌, ◌/◌, ◌%◌, ◌<◌, ◌≤◌, Bool, true, false, cond, ◌&&◌, ◌||◌, eqb, ltb, leb, List, [], ◌∷◌, ◌++◌, length, take, drop, sym, refl, ap, ◌∙◌, append_assoc, arith, length-append}
 use Rattle.std.proofs.lemmas.List.{take_at, drop_at, drop-drop, take-append-drop, length-take-le}
 use Rattle.std.proofs.lemmas.Bool.{ltb-true, ltb-false, leb-true, cond-true, cond-false, lt-ltb, le-ltb, and_parts, or_parts}
-use Rattle.sets.specs.Sets.{Name, bare, byte, led, part, name_size, Set, Tile, filler, holds, long, offset_size, size, name_at, object_at}
-use Rattle.sets.specs.Parsing.{Step, Read, got, bad, then, one, run, offset, arcs, whole_arcs, lead, identifier, second, first_length, size_of_object, body, end, tile, wrong, plain, told, parse}
+use Rattle.sets.specs.Sets.{Name, bare, byte, led, part, name_size, Set, filler, holds, long, offset_size, name_at, object_at}
+use Rattle.sets.specs.Parsing.{Read, got, bad, then, one, run, offset, arcs, whole_arcs, lead, identifier, second, first_length, size_of_object, body, end, tile, wrong, plain, told, parse}
 use Rattle.sets.specs.Writing.{name_bytes, length_bytes, offset_bytes}
 use Rattle.sets.specs.Laws.{Stands, PartsStand}
 use Rattle.sets.proofs.Parts.{not-bad, then-parts}

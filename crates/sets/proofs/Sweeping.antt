@@ -1,15 +1,15 @@
 -- Stray bytes are found in one sweep over the sets, upwards.
-use Rattle.std.proofs.Common.{◌≡◌, ℕ, zero, suc, ◌+◌, ◌/◌, ◌<◌, ◌≤◌, Bool, true, false, not, ◌&&◌, ◌||◌, ltb, leb, ◌⊎◌, List, [], ◌∷◌, ◌++◌, length, get_or, take, drop, Some, None, sym, refl, ap, ◌∙◌, subst, inl, inr, ⊎_elim, arith, length-append}
+use Rattle.std.proofs.Common.{◌≡◌, ℕ, ◌+◌, ◌/◌, ◌<◌, ◌≤◌, Bool, true, false, not, ◌&&◌, ltb, leb, List, [], ◌∷◌, length, get_or, take, drop, Some, None, sym, refl, ap, ◌∙◌, subst, ⊎_elim, arith, length-append}
 use Rattle.std.specs.Option.{option_map}
 use Rattle.std.specs.List.{ContainsAt as Has, AllByRecursion as All}
 use Rattle.std.proofs.lemmas.List.{take-append-drop, drop_more, drop_all}
-use Rattle.std.proofs.ByRecursion.{All-weaker, All-more, All-get_or, has_get_or}
-use Rattle.std.proofs.lemmas.Bool.{le-leb, lt-leb, lt-ltb, le-ltb, and_from, and_left, and_right, and_parts, cases_lt, cases_Bool}
-use Rattle.sets.specs.Sets.{Set, Tile, filler, holds, size}
+use Rattle.std.proofs.ByRecursion.{All-weaker, All-more, has_get_or}
+use Rattle.std.proofs.lemmas.Bool.{le-leb, lt-leb, lt-ltb, le-ltb, and_from, and_left, and_right, cases_lt, cases_Bool}
+use Rattle.sets.specs.Sets.{Tile, filler, holds, size}
 use Rattle.sets.specs.Scans.{scan, Found, placed, behind}
 use Rattle.sets.specs.Tilings.{span}
 use Rattle.sets.specs.Objects.{unpacked}
-use Rattle.sets.specs.Readings.{Memory, every, lowest, any, found, locked_at, sealed, byte_of, stray, stray_block}
+use Rattle.sets.specs.Readings.{Memory, any, found, locked_at, sealed, byte_of, stray, stray_block}
 use Rattle.sets.proofs.Tilings.{scan-tiles, tiled-span}
 use Rattle.sets.proofs.Searching.{lowest-none, lowest-some, any_none, any-has, any_append, true-false}
 

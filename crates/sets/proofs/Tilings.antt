@@ -1,11 +1,11 @@
 -- A scan is a tiling.
-use Rattle.std.proofs.Common.{◌≡◌, ℕ, zero, suc, ◌+◌, ◌-◌, ◌%◌, ◌<◌, ◌≤◌, Bool, true, false, cond, eqb, List, [], ◌∷◌, ◌++◌, length, take, drop, Some, None, Ok, Err, Option, Result, sym, refl, ap, ◌∙◌, subst, append_assoc, append-nil, add-zero, zero-add, arith, length-append, length-drop}
+use Rattle.std.proofs.Common.{◌≡◌, ℕ, zero, suc, ◌+◌, ◌%◌, ◌≤◌, Bool, true, false, cond, eqb, List, [], ◌∷◌, ◌++◌, length, take, drop, Some, None, Ok, Err, Option, Result, sym, refl, ap, ◌∙◌, subst, append_assoc, add-zero, zero-add, arith, length-append, length-drop}
 use mathlib.Core.Path.{fun_ext}
 use Rattle.std.proofs.lemmas.List.{take_at, drop_at, drop-drop}
 use Rattle.std.proofs.lemmas.Bool.{eqb-true}
 use Rattle.sets.specs.Sets.{Set, Tile, filler, holds, size, wide}
 use Rattle.sets.specs.Parsing.{Flaw, Step, end, tile, wrong, Read, got, bad, body, told, parse}
-use Rattle.sets.specs.Scans.{Unpack, examined, checked, next, Refusal, Scan, clean, first, onward, scan_by, scan_at, scan, Found, placed}
+use Rattle.sets.specs.Scans.{Unpack, examined, checked, next, Refusal, Scan, clean, first, onward, scan_by, scan_at, scan, placed}
 use Rattle.sets.specs.Tilings.{span, Reads, Tiled, Ended, Halts}
 use Rattle.sets.specs.Laws.{ScanTiles, TilesScan, Replaces}
 use Rattle.sets.proofs.Fronts.{Front, front, is-end}

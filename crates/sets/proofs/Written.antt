@@ -1,11 +1,11 @@
 -- What is written is read.
-use Rattle.std.proofs.Common.{◌≡◌, ℕ, zero, suc, ◌+◌, ◌-◌, ◌*◌, ◌/◌, ◌%◌, ◌<◌, ◌≤◌, Bool, true, false, cond, not, ◌&&◌, ◌||◌, eqb, ltb, leb, List, [], ◌∷◌, ◌++◌, length, take, drop, replicate, sym, refl, ap, ◌∙◌, subst, arith, length-append}
+use Rattle.std.proofs.Common.{◌≡◌, ℕ, zero, suc, ◌+◌, ◌-◌, ◌*◌, ◌/◌, ◌%◌, ◌<◌, ◌≤◌, Bool, true, false, cond, not, ◌&&◌, ◌||◌, eqb, ltb, leb, List, [], ◌∷◌, ◌++◌, length, replicate, refl, ap, ◌∙◌, arith, length-append}
 use lib.ListN.{length-replicate}
 use Rattle.std.proofs.lemmas.Bool.{ltb-true, ltb-false, eqb-false, ne_eqb, le-ltb, lt-ltb, le-leb, lt-leb, cond-true, cond-false, cond_both, and_from, and_parts, or_from}
-use Rattle.sets.specs.Sets.{Name, bare, byte, led, content, name_size, Set, holds, long, offset_size, size}
-use Rattle.sets.specs.Parsing.{tile, Read, got, bad, then, one, run, offset, arcs, whole_arcs, lead, identifier, second, first_length, size_of_object, body, told, parse}
+use Rattle.sets.specs.Sets.{Name, bare, byte, led, content, name_size, Set, holds, offset_size}
+use Rattle.sets.specs.Parsing.{tile, got, bad, then, one, run, offset, arcs, whole_arcs, lead, identifier, second, size_of_object, body, told}
 use Rattle.sets.specs.Writing.{shortest, smallest, nibble, name_bytes, length_bytes, offset_bytes, encode}
-use Rattle.sets.specs.Laws.{Proper, Fitting, Writable, ComesBack, SmallestComesBack, FillerComesBack, EncodedSize}
+use Rattle.sets.specs.Laws.{Proper, Fitting, ComesBack, SmallestComesBack, FillerComesBack, EncodedSize}
 use Rattle.sets.proofs.Parts.{Takes, then-takes, run-takes}
 use Rattle.sets.proofs.Fronts.{made, pad_on, object_on, length_on, name_on, is_set, is-filler}
 

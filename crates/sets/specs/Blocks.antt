@@ -1,5 +1,5 @@
 -- Blocks of memory, locked or open.
-use Rattle.std.specs.Prelude.{◌≡◌, ℕ, ◌+◌, ◌*◌, ◌<◌, ◌≤◌, Bool, true, false, List, length, ◌≢◌, slice_index_or}
+use Rattle.std.specs.Prelude.{◌≡◌, ℕ, ◌+◌, ◌*◌, ◌<◌, Bool, false, List, ◌≢◌, slice_index_or}
 use Rattle.std.specs.List.{AllByRecursion as All}
 use Rattle.sets.specs.Sets.{size}
 use Rattle.sets.specs.Scans.{Found}

@@ -1,5 +1,5 @@
 -- The laws of reading and writing sets.
-use Rattle.std.specs.Prelude.{◌≡◌, ℕ, ◌+◌, ◌<◌, ◌≤◌, true, List, [], ◌∷◌, ◌++◌, length, take, drop, Ok, Option}
+use Rattle.std.specs.Prelude.{◌≡◌, ℕ, ◌+◌, ◌<◌, ◌≤◌, true, List, ◌∷◌, ◌++◌, length, take, drop, Ok, Option}
 use Rattle.std.specs.Int.Digits.{AllBelowBase}
 use Rattle.codes.specs.Table.{code}
 use Rattle.sets.specs.Sets.{Name, bare, byte, led, content, part, Set, Tile, filler, holds, size, name_at, object_at}

@@ -1,7 +1,7 @@
 -- Tiles laid out anew, and why none takes less.
-use Rattle.std.specs.Prelude.{◌≡◌, ℕ, zero, suc, ◌+◌, ◌<◌, ◌≤◌, ◌⊎◌, List, [], ◌∷◌, ◌++◌, length, take, drop, Ok}
+use Rattle.std.specs.Prelude.{◌≡◌, ℕ, ◌+◌, ◌≤◌, ◌⊎◌, List, [], ◌∷◌, ◌++◌, length, take, drop, Ok}
 use Rattle.std.specs.List.{AllByRecursion as All}
-use Rattle.sets.specs.Sets.{content, Set, Tile, filler, holds, size, wide}
+use Rattle.sets.specs.Sets.{content, Tile, filler, holds, size}
 use Rattle.sets.specs.Writing.{smallest, encode}
 use Rattle.sets.specs.Scans.{Unpack, clean, scan, Found, placed}
 use Rattle.sets.specs.Tilings.{span, Tiled, Ended}

@@ -1,5 +1,5 @@
 -- What it means that a memory reads as a list, or is refused by 16 or 18, said of its blocks and sets.
-use Rattle.std.specs.Prelude.{◌≡◌, ℕ, ◌/◌, ◌<◌, true, false, ◌⊎◌, List, map, length, get_or, Some, None, Ok, Err, Result, ◌≢◌, slice_index_or}
+use Rattle.std.specs.Prelude.{◌≡◌, ℕ, ◌/◌, ◌<◌, true, false, ◌⊎◌, map, length, get_or, Some, None, Ok, Err, Result, ◌≢◌, slice_index_or}
 use Rattle.std.specs.List.{ContainsAt as Has}
 use Rattle.sets.specs.Parsing.{plain}
 use Rattle.sets.specs.Scans.{Refusal, scan, Found}

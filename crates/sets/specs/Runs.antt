@@ -1,5 +1,5 @@
 -- Bytes that two memories share, and bytes that are bytes.
-use Rattle.std.specs.Prelude.{◌≡◌, ℕ, ◌+◌, ◌-◌, ◌<◌, ◌≤◌, List, [], ◌∷◌, ◌++◌, length, take, drop}
+use Rattle.std.specs.Prelude.{◌≡◌, ℕ, ◌+◌, ◌≤◌, List, ◌++◌, take, drop}
 use Rattle.std.specs.List.{AllByRecursion as All}
 use Rattle.std.specs.Int.Digits.{AllBelowBase}
 use Rattle.sets.specs.Sets.{content, Set, Tile}

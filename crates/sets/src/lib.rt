@@ -1,4 +1,6 @@
 // What a memory of sets means, as definitions, with its laws and worked examples.
+#![tactic(auto)]
+
 ghost use Rattle.std.specs.Prelude.{◌≡◌, ◌+◌, length};
 ghost use Rattle.sets.specs.Examples.{spellings, steps, SpellingsRight, StepsRight, MemoryRight};
 

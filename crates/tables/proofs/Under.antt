@@ -1,5 +1,5 @@
 -- What a driver's calls do where the changes are kept in a table.
-use Rattle.std.proofs.Common.{◌≡◌, ℕ, ◌+◌, ◌<◌, ◌≤◌, Bool, true, false, cond, ◌&&◌, ◌||◌, leb, ◌≢◌, List, [], ◌++◌, map, length, get_or, take, drop, set, replicate, Ok, Err, sym, refl, ap, ◌∙◌, ⊎_elim, arith, length-append}
+use Rattle.std.proofs.Common.{◌≡◌, ℕ, ◌<◌, ◌≤◌, Bool, true, false, cond, ◌&&◌, ◌||◌, leb, ◌≢◌, List, [], ◌++◌, map, length, get_or, take, drop, set, replicate, Ok, Err, sym, refl, ap, ◌∙◌, ⊎_elim, arith, length-append}
 use Rattle.std.specs.List.{range_with_len}
 use Rattle.std.proofs.lemmas.List.FromFn.{length-map-range_with_len, get_or-map-range_with_len, fill_by_all}
 use Rattle.std.proofs.lemmas.List.{length-take-le, length-replicate, get_or-replicate, length-set, get_or-set_same, get_or-set_other, take-append-le, take_at}
@@ -11,7 +11,7 @@ use Rattle.drivers.specs.Questions.{shut, block, locked_answer, read_answer, rea
 use Rattle.drivers.specs.Changes.{write_answer, write_tag, lock_answer, lock_tag}
 use Rattle.drivers.proofs.Granted.{locked-told, read_granted, read_leaves, write_granted, write_refused, write_leaves, lock_granted, lock_leaves}
 use Rattle.tables.specs.declared.Table.{Table}
-use Rattle.tables.specs.Tables.{has_room, unchanged, is_written, is_locked, row, with_row, with_locked, first, block_under, lock_under, under}
+use Rattle.tables.specs.Tables.{has_room, unchanged, is_written, row, with_row, with_locked, first, block_under, lock_under, under}
 
 room-parts : (n b : ℕ) → has_room n b ≡ true → (n ≤ 64) × (b ≤ 32)
 room-parts n b e = let p = and_parts _ _ e in (leb-true n 64 p.0, leb-true b 32 p.1)

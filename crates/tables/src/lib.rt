@@ -1,4 +1,6 @@
 // The table of changed blocks: which were written, which were locked, and what was written.
+#![tactic(auto)]
+
 ghost use Rattle.std.specs.Prelude.{◌≡◌, ◌&&◌, length, if◌then◌else◌, nat_le, nat_lt};
 ghost use Rattle.tables.specs.Tables.{has_room, unchanged, is_written, is_locked, row, first, with_row, with_locked, Rowed};
 

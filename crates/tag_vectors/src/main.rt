@@ -2,6 +2,8 @@
 //
 // A case is `dump HEX` (`-` is no bytes), `same BYTE` or `locked BYTE` (32 blocks of 32 such bytes, open or locked), then
 // the lines of its listing and an empty line.
+#![tactic(auto)]
+
 use anyhow::{Context, anyhow};
 use listing::listing;
 use std::alloc::Global;

@@ -1,5 +1,5 @@
 -- The tests on a shape, taken apart and put together.
-use Rattle.std.proofs.Common.{◌≡◌, ℕ, ◌*◌, ◌<◌, ◌≤◌, Bool, true, false, eqb, leb, List, length, sym, refl, zero-mul, arith}
+use Rattle.std.proofs.Common.{◌≡◌, ℕ, ◌*◌, ◌<◌, ◌≤◌, Bool, true, false, List, length, sym, refl, zero-mul, arith}
 use Rattle.std.proofs.lemmas.Bool.{and_parts, and_from, leb-true, eqb-true, le-leb, eq-eqb}
 use Rattle.tags.specs.Tags.{Shaped, laid, in_limits, fits, held}
 use Rattle.tags.proofs.Cuts.{laid-shaped}

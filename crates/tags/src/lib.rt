@@ -1,4 +1,6 @@
 // What a tag is: its shape, its dump, and how a fault of either is told.
+#![tactic(auto)]
+
 pub mod dumps;
 pub mod faults;
 pub mod shapes;

@@ -1,4 +1,6 @@
 // Lists the dump of a tag that is read from standard input.
+#![tactic(auto)]
+
 use listing::listing;
 use std::io::Read;
 

@@ -1,4 +1,6 @@
 // The window: a driver over any driver that shows some of its blocks.
+#![tactic(auto)]
+
 ghost use Rattle.std.specs.Prelude.{◌≡◌, ◌+◌, ◌≤◌, ◌<◌};
 ghost use Rattle.drivers.specs.Layers.{window_tag, refused_at, told_at, Narrower};
 ghost use Rattle.drivers.proofs.Windowing.{window_shaped};

@@ -1,7 +1,6 @@
 -- Forms of sets: what their parts come to.
-use Rattle.std.proofs.Common.{◌≡◌, ℕ, ◌+◌, ◌-◌, ◌<◌, ◌≤◌, Bool, true, false, List, [], ◌∷◌, ◌++◌, length, take, drop, Ok, Err, sym, refl, ap, ◌∙◌, subst, append-nil, le_trans, arith, length-drop}
-use borrow.Rule.Slice.PartMut.{put_mid}
-use Rattle.std.proofs.lemmas.List.{drop_all, length-take-le}
+use Rattle.std.proofs.Common.{◌≡◌, ℕ, ◌+◌, ◌≤◌, true, List, ◌++◌, length, drop, Err, sym, refl, ap, ◌∙◌, append-nil, arith}
+use Rattle.std.proofs.lemmas.List.{drop_all}
 use Rattle.std.proofs.lemmas.Bool.{both_ways}
 use Rattle.codes.specs.declared.kind.Kind.{Kind}
 use Rattle.codes.specs.declared.kind.Kind.TheVariants.{Application, Compact, Utf8}
@@ -18,7 +17,6 @@ use Rattle.packing.specs.Packing.{Sized, Stored, Packs}
 use Rattle.sets.specs.Sets.{Set, size}
 use Rattle.sets.specs.Writing.{encode}
 use Rattle.writing.specs.Puts.{Puts}
-use Rattle.writing.proofs.Puttings.{puts_run}
 
 -- the first permitted code packs no longer than plain bytes
 pub packed-most : (kind : Kind) (x : List ℕ) → length (packed_code (first_code (kind_number kind) x) x) ≤ length x

@@ -1,5 +1,5 @@
 -- Bytes put into a lent slice, one run after another.
-use Rattle.std.specs.Prelude.{◌≡◌, ℕ, ◌+◌, ◌<◌, ◌≤◌, List, [], ◌∷◌, ◌++◌, length, take, drop}
+use Rattle.std.specs.Prelude.{◌≡◌, ℕ, ◌+◌, ◌<◌, ◌≤◌, List, ◌++◌, length, take, drop}
 use Rattle.sets.specs.Sets.{bare, byte, led}
 use Rattle.sets.specs.Writing.{shortest}
 use Rattle.writing.specs.declared.Spelling.{Spelling}

@@ -1,4 +1,6 @@
 // Sets as they are written: bytes put into a lent slice, part by part.
+#![tactic(auto)]
+
 ghost use Rattle.std.specs.Prelude.{◌≡◌, ◌+◌, ◌*◌, ◌<◌, ◌≤◌, [], ◌∷◌, length, replicate};
 ghost use Rattle.codes.specs.Table.{packed_code, first_code};
 ghost use Rattle.codes.specs.Numbers.{kind_number};

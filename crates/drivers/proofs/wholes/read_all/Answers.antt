@@ -1,4 +1,4 @@
-use Rattle.std.proofs.Common.{◌≡◌, ◌*◌, ◌≤◌, ◌++◌, length, drop, sym, refl, ap, ◌∙◌, arith, rules}
+use Rattle.std.proofs.Common.{◌≡◌, ◌*◌, ◌≤◌, ◌++◌, length, drop, sym, ap, ◌∙◌, arith, rules}
 use Rattle.tags.proofs.Cuts.{block-end}
 use Rattle.drivers.proofs.Fronts.{front-more, front-all}
 use Rattle.drivers.proofs.Granted.{read_ok}

@@ -1,4 +1,4 @@
-use Rattle.std.proofs.Common.{◌≡◌, ◌+◌, ◌-◌, ◌≤◌, ◌++◌, map, length, replicate, sym, refl, ap, ◌∙◌, subst, arith}
+use Rattle.std.proofs.Common.{◌-◌, ◌≤◌, ◌++◌, map, length, replicate, sym, ap, ◌∙◌, subst, arith}
 use Rattle.sets.specs.Layouts.{laid}
 use Rattle.layout.specs.Plans.{total, run, taken}
 use Rattle.layout.specs.Lays.{wanted, laid_gap}

@@ -1,4 +1,4 @@
-use Rattle.std.proofs.Common.{◌≡◌, ◌+◌, ◌≤◌, map, length, get_or, sym, refl, ap, ◌∙◌, subst, arith}
+use Rattle.std.proofs.Common.{◌+◌, ◌≤◌, map, length, get_or, sym, ◌∙◌, subst, arith}
 use Rattle.sets.specs.Sets.{size}
 use Rattle.sets.specs.Writing.{encode}
 use Rattle.sets.specs.Layouts.{laid}

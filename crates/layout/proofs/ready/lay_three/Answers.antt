@@ -1,6 +1,6 @@
-use Rattle.std.proofs.Common.{◌≡◌, ◌-◌, ◌++◌, map, length, sym, ap, ◌∙◌, subst, arith}
+use Rattle.std.proofs.Common.{◌≡◌, ◌-◌, ◌++◌, ◌∙◌, arith}
 use Rattle.layout.specs.declared.items.Behind.TheVariants.{Locked}
-use Rattle.layout.specs.Lays.{wanted, laid_gap}
+use Rattle.layout.specs.Lays.{laid_gap}
 use Rattle.layout.proofs.Readying.{front-fit, mid-fit, back-fit, front-part, mid-part, back-part, front-total, mid-total, back_total, put_three}
 use Rattle.layout.proofs.ready.lay_three.Goals as goal
 

@@ -1,4 +1,4 @@
-use Rattle.std.proofs.Common.{◌≡◌, ◌+◌, ◌*◌, ◌/◌, ◌≤◌, min, sym, ap, ◌∙◌, arith, rules}
+use Rattle.std.proofs.Common.{◌+◌, ◌*◌, ◌/◌, ap, ◌∙◌, arith, rules}
 use Rattle.listing.proofs.Filling.{percent-is, nearest, hundred}
 use Rattle.listing.proofs.fills.rounded.Goals as goal
 

@@ -1,4 +1,4 @@
-use Rattle.std.proofs.Common.{◌≡◌, ℕ, ◌+◌, length, take, drop, Err, sym, refl, ap, ◌∙◌, arith}
+use Rattle.std.proofs.Common.{◌≡◌, length, take, drop, Err, ap, ◌∙◌, arith}
 use Rattle.tags.specs.Tags.{Tag}
 use Rattle.tags.specs.Dumps.{count_of}
 use Rattle.listing.proofs.Passing.{passes}

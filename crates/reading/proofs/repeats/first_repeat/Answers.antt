@@ -1,4 +1,4 @@
-use Rattle.std.proofs.Common.{ℕ, Bool, get_or, take, sym, ap, ◌∙◌, arith}
+use Rattle.std.proofs.Common.{get_or, take, sym, ap, ◌∙◌, arith}
 use Rattle.std.proofs.ByRecursion.{All-get_or, All-take}
 use Rattle.sets.specs.Readings.{any}
 use Rattle.reading.specs.Inner.{Inside, same_content}

@@ -1,4 +1,4 @@
-use Rattle.std.proofs.Common.{◌+◌, ◌-◌, take, drop, ap, arith}
+use Rattle.std.proofs.Common.{take, drop, ap, arith}
 use Rattle.std.proofs.lemmas.Slice.Eq.{slice_eq-Decides}
 use Rattle.reading.proofs.Contents.{same_parts}
 use Rattle.reading.proofs.repeats.same_identifier.Goals as goal

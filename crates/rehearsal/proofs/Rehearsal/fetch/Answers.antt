@@ -1,4 +1,4 @@
-use Rattle.std.proofs.Common.{◌≡◌, ◌+◌, ◌-◌, ◌*◌, ◌<◌, ◌≤◌, length, take, drop, sym, ap, ◌∙◌, arith, rules}
+use Rattle.std.proofs.Common.{◌≡◌, ◌+◌, ◌-◌, ◌*◌, ◌<◌, length, take, drop, sym, ap, ◌∙◌, arith, rules}
 use Rattle.tags.specs.Dumps.{dump_means}
 use Rattle.tags.proofs.Limits.{held_below}
 use Rattle.tags.proofs.Meant.{dump_inside, dump_block}

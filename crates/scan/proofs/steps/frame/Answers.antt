@@ -2,7 +2,6 @@ use Rattle.std.proofs.Common.{◌≡◌, drop, Err, sym, ap, ◌∙◌, subst, a
 use Rattle.std.proofs.lemmas.Result.{err_from_is_err_and}
 use Rattle.sets.specs.Parsing.{end, parse}
 use Rattle.sets.proofs.Bodies.{step_end, step-zero, step-filler, step_set, step-nibble}
-use Rattle.scan.specs.declared.views.SetRecord.{SetRecord}
 use Rattle.scan.specs.Inner.{framed, Frames}
 use Rattle.scan.proofs.steps.frame.Goals as goal
 use Rattle.scan.proofs.steps.frame.Goals.{then-at-image-via-then-at-image, then-at-image-via-else-at-image+then-image-at-eq0}

@@ -1,8 +1,8 @@
-use Rattle.std.proofs.Common.{◌≡◌, ℕ, ◌<◌, drop, Ok, Err, sym, refl, ap, ◌∙◌, subst, arith}
+use Rattle.std.proofs.Common.{◌≡◌, ◌<◌, drop, Ok, Err, sym, refl, ap, ◌∙◌, subst, arith}
 use Rattle.std.proofs.ByRecursion.{All-from_get_or}
 use Rattle.std.proofs.lemmas.Result.{err_from_is_err_and}
 use Rattle.sets.specs.Sets.{filler, holds}
-use Rattle.sets.specs.Parsing.{end, tile, wrong, parse}
+use Rattle.sets.specs.Parsing.{end, tile, parse}
 use Rattle.sets.specs.Scans.{examined}
 use Rattle.sets.specs.Objects.{unpacked}
 use Rattle.sets.proofs.Written.{smallest-back}

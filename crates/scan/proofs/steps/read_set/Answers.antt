@@ -1,9 +1,9 @@
-use Rattle.std.proofs.Common.{◌≡◌, ℕ, ◌+◌, ◌-◌, ◌/◌, ◌%◌, ◌≤◌, List, length, get_or, take, drop, Ok, Err, sym, refl, ap, ◌∙◌, subst, arith, length-drop}
+use Rattle.std.proofs.Common.{◌≡◌, ℕ, ◌+◌, ◌-◌, ◌%◌, ◌≤◌, List, length, get_or, take, drop, Err, sym, ap, ◌∙◌, subst, arith, length-drop}
 use Rattle.std.proofs.lemmas.List.{length-take-le}
 use Rattle.std.proofs.lemmas.Result.{err_from_is_err_and}
-use Rattle.sets.specs.Sets.{Name, holds, offset_size, name_size, long}
-use Rattle.sets.specs.Parsing.{tile, told, body}
-use Rattle.sets.proofs.Fronts.{made, length_on, object_on}
+use Rattle.sets.specs.Sets.{holds, offset_size, name_size, long}
+use Rattle.sets.specs.Parsing.{tile, told}
+use Rattle.sets.proofs.Fronts.{made}
 use Rattle.scan.specs.Views.{name_of}
 use Rattle.scan.specs.Inner.{viewed, Views}
 use Rattle.sets.proofs.Bodies.{body_on, body-bad, name-next, name-bad, length-bad, to-object, object-next, object-bad, pad-next, pad-bad, offset-next, id_next, long-next}

@@ -1,7 +1,6 @@
 use mathlib.Core.Path.{ap, ◌∙◌}
 use Prim.Native.Nat.{◌<◌, ◌-◌, min}
 use native.Mathlib.Omega.{arith}
-use lib.ListN.{length}
 use Rattle.drivers.specs.Questions.{locked_answer}
 use Rattle.drivers.specs.Layers.{window_tag, told_at}
 use Rattle.drivers.proofs.Windowing.{window_locked}

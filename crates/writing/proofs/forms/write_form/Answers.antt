@@ -1,4 +1,4 @@
-use Rattle.std.proofs.Common.{◌≡◌, ◌+◌, ◌*◌, length, replicate, sym, ap, ◌∙◌, subst, arith, rules}
+use Rattle.std.proofs.Common.{◌+◌, ◌*◌, replicate, ◌∙◌, subst, arith, rules}
 use Rattle.codes.specs.Numbers.{kind_number}
 use Rattle.sets.specs.Writing.{length_bytes}
 use Rattle.writing.specs.Forms.{form}

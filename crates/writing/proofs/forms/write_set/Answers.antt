@@ -1,4 +1,4 @@
-use Rattle.std.proofs.Common.{◌≡◌, sym, ap, ◌∙◌, arith}
+use Rattle.std.proofs.Common.{arith}
 use Rattle.codes.specs.Numbers.{kind_number}
 use Rattle.writing.specs.Forms.{form}
 use Rattle.writing.proofs.Formed.{packed-most, form_writable, put_front}
