@@ -1,6 +1,6 @@
 -- Identifiers by the records of their sets.
 use Rattle.std.proofs.Common.{◌≡◌, ℕ, zero, suc, ◌+◌, ◌-◌, ◌<◌, ◌≤◌, Bool, true, false, cond, ◌&&◌, eqb, List, [], ◌∷◌, map, length, get_or, take, drop, is_some, Some, None, Decides, Option, sym, refl, ap, ◌∙◌, subst, ⊎_elim, arith, length-drop, rules}
-use Rattle.std.specs.List.{AllByRecursion as All}
+use Rattle.std.specs.List.{AllByRecursion}
 use Rattle.std.specs.Str.{bytes_eq}
 use Rattle.std.proofs.lemmas.Slice.Eq.{bytes_eq-Decides}
 use Rattle.std.proofs.ByRecursion.{All-get_or, All-weaker}
@@ -53,7 +53,7 @@ set_says xs f e =
     let p : parse (drop f.at xs) ≡ tile (holds f.set) = next-parse unpacked (drop f.at xs) (holds f.set) e in
     name-is xs f.at f.set.extra f.set.name (front (drop f.at xs) (holds f.set) p).1.0 (parts_stand xs f.at f.set p).name
 
-pub all_say : (xs : List ℕ) → All (Says xs) (found xs)
+pub all_say : (xs : List ℕ) → AllByRecursion (Says xs) (found xs)
 all_say xs = All-weaker (λ f. next unpacked (drop f.at xs) ≡ tile (holds f.set)) (Says xs) (set_says xs) (found xs) (found-next xs)
 
 -- so the place of an identifier is the same among records and among sets
@@ -61,13 +61,13 @@ lowest-same : (p q : ℕ → Bool) (n : ℕ) → ((i : ℕ) → i < n → p i �
 lowest-same p q zero h = refl
 lowest-same p q (suc n) h = λ j. either (lowest-same p q n (λ i l. h i (omega arith)) j) (cond (h n (omega arith) j) (Some n) None)
 
-pub place_same : (xs c : List ℕ) (fs : List Found) (rs : List SetRecord) → All (Says xs) fs → rs ≡ records fs → place_among xs c rs ≡ place_in c fs
+pub place_same : (xs c : List ℕ) (fs : List Found) (rs : List SetRecord) → AllByRecursion (Says xs) fs → rs ≡ records fs → place_among xs c rs ≡ place_in c fs
 place_same xs c fs rs all e =
     lowest-same (λ i. bytes_eq (content_in xs (record_in rs i)) c) (λ i. bytes_eq (identified (set_in fs i)) c) (length rs)
     (λ i h. ap (λ d. bytes_eq d c) (ap (content_in xs) (record_at fs rs i _ e h) ∙ All-get_or (Says xs) fs i _ (omega (arith, count-is fs rs e)) all))
     ∙ ap (lowest (λ i. bytes_eq (identified (set_in fs i)) c)) (count-is fs rs e)
 
-all_drop : (P : Found → Type 0) (n : ℕ) (fs : List Found) → All P fs → All P (drop n fs)
+all_drop : (P : Found → Type 0) (n : ℕ) (fs : List Found) → AllByRecursion P fs → AllByRecursion P (drop n fs)
 all_drop P zero fs all = all
 all_drop P (suc n) [] all = all
 all_drop P (suc n) (f ∷ fs) all = all_drop P n fs all.1

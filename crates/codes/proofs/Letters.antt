@@ -1,6 +1,6 @@
 -- The four alphabets: what bytes say, and what comes back.
 use Rattle.std.proofs.Common.{◌≡◌, ℕ, zero, suc, ◌+◌, ◌-◌, ◌*◌, ◌/◌, ◌%◌, ◌^◌, ◌<◌, ◌≤◌, Bool, true, false, cond, ◌&&◌, eqb, ltb, leb, ◌⊎◌, List, [], ◌∷◌, map, length, get_or, take, drop, Ok, Err, sym, refl, ap, ◌∙◌, subst, inl, inr, ⊎_elim, lt_of_lt_of_le, mod-lt, arith, length-take, pow_pos, pow_mono}
-use Rattle.std.specs.List.{AllByRecursion as All}
+use Rattle.std.specs.List.{AllByRecursion}
 use Rattle.std.specs.Int.Digits.{AllBelowBase}
 use Rattle.std.proofs.lemmas.List.{length-map, get_or-map, get_or_default, length-take-le}
 use Rattle.std.proofs.ByRecursion.{All-get_or, All-take, All-drop}
@@ -12,14 +12,14 @@ use Rattle.codes.specs.declared.fault.Fault.TheVariants.{NoCharacter, NoPadding}
 use Rattle.codes.specs.Table.{whole, remaining, pad_behind, letter, upto, told, unpacked_letters, blank_end}
 
 -- tests of all bytes
-pub all-within : (lo hi : ℕ) (x : List ℕ) → within lo hi x ≡ true → All (λ b. (lo ≤ b) × (b ≤ hi)) x
+pub all-within : (lo hi : ℕ) (x : List ℕ) → within lo hi x ≡ true → AllByRecursion (λ b. (lo ≤ b) × (b ≤ hi)) x
 all-within lo hi [] h = tt
 all-within lo hi (b ∷ x) h =
     let p = and_parts (leb lo b && leb b hi) (within lo hi x) h in
     let q = and_parts (leb lo b) (leb b hi) p.0 in
     ((leb-true lo b q.0, leb-true b hi q.1), all-within lo hi x p.1)
 
-upto_all : (lo hi : ℕ) (x : List ℕ) → All (λ b. (lo ≤ b) × (b ≤ hi)) x → upto hi x ≡ length x
+upto_all : (lo hi : ℕ) (x : List ℕ) → AllByRecursion (λ b. (lo ≤ b) × (b ≤ hi)) x → upto hi x ≡ length x
 upto_all lo hi [] a = refl
 upto_all lo hi (b ∷ x) a = cond-true (leb b hi) (suc (upto hi x)) 0 (le-leb b hi a.0.1) ∙ ap suc (upto_all lo hi x a.1)
 
@@ -69,7 +69,7 @@ under_low : (w : ℕ) (x : List ℕ) → AllBelowBase (2 ^ w) (low_bits w x)
 under_low w [] = tt
 under_low w (b ∷ x) = (mod-lt b (pow_pos w), under_low w x)
 
-spelled : (w lo hi : ℕ) (x : List ℕ) → ((b : ℕ) → lo ≤ b → b ≤ hi → letter w lo (b % 2 ^ w) ≡ b) → All (λ b. (lo ≤ b) × (b ≤ hi)) x → map (letter w lo) (low_bits w x) ≡ x
+spelled : (w lo hi : ℕ) (x : List ℕ) → ((b : ℕ) → lo ≤ b → b ≤ hi → letter w lo (b % 2 ^ w) ≡ b) → AllByRecursion (λ b. (lo ≤ b) × (b ≤ hi)) x → map (letter w lo) (low_bits w x) ≡ x
 spelled w lo hi [] one a = refl
 spelled w lo hi (b ∷ x) one a = (λ i. one b a.0.0 a.0.1 i ∷ spelled w lo hi x one a.1 i)
 

@@ -1,6 +1,6 @@
 -- Worked examples, as statements.
 use Rattle.std.specs.Prelude.{◌≡◌, ℕ, List, [], ◌∷◌, Ok, codes}
-use Rattle.std.specs.List.{AllByRecursion as All}
+use Rattle.std.specs.List.{AllByRecursion}
 use Rattle.codes.specs.Table.{first_code, packed_code, unpacked_code}
 
 pub record Example : Type 0 where
@@ -26,4 +26,4 @@ examples =
     ∷ []
 
 abbrev pub ExamplesHold : Type 0
-ExamplesHold = All Right examples
+ExamplesHold = AllByRecursion Right examples

@@ -3,20 +3,20 @@ use Rattle.std.proofs.Common.{◌≡◌, ℕ, ◌+◌, ◌*◌, ◌<◌, ◌≤�
 use borrow.Rule.Slice.PartMut.{put_mid}
 use Rattle.std.proofs.lemmas.List.{take_at, drop_at, drop-drop, take_more, flat_map_more, take_all, length-take-le}
 use Rattle.std.proofs.ByRecursion.{All-from_get_or, All-take}
-use Rattle.std.specs.List.{AllByRecursion as All, flat_map}
+use Rattle.std.specs.List.{AllByRecursion, flat_map}
 use Rattle.tags.specs.Tags.{Tag, Shaped, bytes}
 use Rattle.drivers.specs.Questions.{block}
 
 abbrev pub front : Tag → ℕ → List ℕ
 front t k = flat_map (λ b. b) (take k t.blocks)
 
-length_joined : (bs : List (List ℕ)) (b : ℕ) → All (λ x. length x ≡ b) bs → length (flat_map (λ x. x) bs) ≡ length bs * b
+length_joined : (bs : List (List ℕ)) (b : ℕ) → AllByRecursion (λ x. length x ≡ b) bs → length (flat_map (λ x. x) bs) ≡ length bs * b
 length_joined [] b all = omega arith
 length_joined (x ∷ bs) b all = omega (arith, length-append x (flat_map (λ x. x) bs), all.0, length_joined bs b all.1, suc-mul (length bs) b)
 
 pub length_front : (t : Tag) → Shaped t → (k : ℕ) → k ≤ t.count → length (front t k) ≡ k * t.size
 length_front t s k h =
-    let fits : All (λ x. length x ≡ t.size) t.blocks = All-from_get_or (λ x. length x ≡ t.size) t.blocks [] (λ i l. s.each i (omega (arith, s.many))) in
+    let fits : AllByRecursion (λ x. length x ≡ t.size) t.blocks = All-from_get_or (λ x. length x ≡ t.size) t.blocks [] (λ i l. s.each i (omega (arith, s.many))) in
     length_joined (take k t.blocks) t.size (All-take (λ x. length x ≡ t.size) k t.blocks fits)
     ∙ ap (λ n. n * t.size) (length-take-le k t.blocks (omega (arith, s.many)))
 

@@ -1,7 +1,7 @@
 -- A gap that is laid out holds bytes.
 use Rattle.std.proofs.Common.{◌≡◌, ℕ, zero, suc, ◌+◌, ◌-◌, ◌<◌, ◌≤◌, List, [], ◌∷◌, ◌++◌, length, take, drop, replicate, sym, ap, subst, lt_of_lt_of_le, arith, length-take, pow_mono}
 use Rattle.std.specs.Int.Digits.{AllBelowBase}
-use Rattle.std.specs.List.{AllByRecursion as All}
+use Rattle.std.specs.List.{AllByRecursion}
 use Rattle.std.proofs.lemmas.Int.Digits.{all_below_base_digits_of}
 use Rattle.std.proofs.ByRecursion.{All-append, All-take, All-drop, All-get_or, All-weaker}
 use Rattle.codes.specs.Bits.{bits, spread, groups, packed, bytes_for, spare, padding}
@@ -51,7 +51,7 @@ formed-under extra w g few =
     written-bytes (formed extra w) (form_writable extra w.identifier w.kind w.object g.fit.identifier g.fit.object few)
     (subst (AllBelowBase 256) (sym name) g.identifier) (packed-under (first_code (kind_number w.kind) w.object) w.object g.object)
 
-run-under : (ws : List Wanted) (extra : ℕ) → All Given ws → extra ≤ 256 → AllBelowBase 256 (laid (run ws extra))
+run-under : (ws : List Wanted) (extra : ℕ) → AllByRecursion Given ws → extra ≤ 256 → AllBelowBase 256 (laid (run ws extra))
 unfolding run laid
 run-under [] extra all few = tt
 run-under (w ∷ []) extra all few = All-append Byte (encode (formed extra w)) [] (formed-under extra w all.0 few) tt
@@ -84,5 +84,5 @@ readied_bytes behind b ws k g all in' =
     (laid-bytes Locked (nth ws k ∷ []) (end - at) (All-get_or Given ws k nothing in' all, tt))
     (laid-bytes behind (drop (suc k) ws) (g - end) (All-drop Given (suc k) ws all)))
 
-pub all_fit : (ws : List Wanted) → All Given ws → All Fit ws
+pub all_fit : (ws : List Wanted) → AllByRecursion Given ws → AllByRecursion Fit ws
 all_fit ws all = All-weaker Given Fit (λ w g. g.fit) ws all

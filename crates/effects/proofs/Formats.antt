@@ -1,7 +1,7 @@
 -- A blank memory reads as the empty list.
 use Rattle.std.proofs.Common.{◌≡◌, ℕ, zero, suc, ◌-◌, ◌/◌, Bool, false, not, ◌&&◌, List, [], ◌∷◌, map, length, get_or, None, filter, refl, ap, ◌∙◌, arith}
 use Rattle.std.specs.Option.{option_map}
-use Rattle.std.specs.List.{AllByRecursion as All}
+use Rattle.std.specs.List.{AllByRecursion}
 use Rattle.std.proofs.lemmas.Bool.{and_left}
 use Rattle.sets.specs.Objects.{unpacked}
 use Rattle.sets.specs.Scans.{Found, clean, scan, placed, used_from}
@@ -12,11 +12,11 @@ use Rattle.sets.proofs.Tilings.{ends, scan-end}
 use Rattle.rivals.proofs.Bridges.{reads_ok}
 use Rattle.effects.specs.Formats.{Blank, Format}
 
-zeros-end : (bs : List ℕ) → All (λ b. b ≡ 0) bs → Ended bs
+zeros-end : (bs : List ℕ) → AllByRecursion (λ b. b ≡ 0) bs → Ended bs
 zeros-end [] a = tt
 zeros-end (b ∷ bs) a = a.0
 
-open_at : (locks : List Bool) (k : ℕ) → All (λ l. l ≡ false) locks → get_or locks k false ≡ false
+open_at : (locks : List Bool) (k : ℕ) → AllByRecursion (λ l. l ≡ false) locks → get_or locks k false ≡ false
 open_at [] k a = refl
 open_at (l ∷ locks) zero a = a.0
 open_at (l ∷ locks) (suc k) a = open_at locks k a.1

@@ -1,7 +1,7 @@
 -- A gap laid out anew with other items.
 use Rattle.std.proofs.Common.{◌≡◌, ℕ, zero, suc, ◌+◌, ◌*◌, ◌<◌, ◌≤◌, List, [], ◌∷◌, ◌++◌, map, length, take, drop, Ok, refl, ap, subst, arith}
 use mathlib.Core.List.{map-append}
-use Rattle.std.specs.List.{AllByRecursion as All}
+use Rattle.std.specs.List.{AllByRecursion}
 use Rattle.sets.specs.Readings.{Memory, Entry, Reading, reads}
 use Rattle.rivals.specs.Memories.{Shaped, Rival, Gap}
 use Rattle.rivals.specs.Relaid.{list_around, Distinct}
@@ -33,7 +33,7 @@ around (suc k) (w ∷ ws) h = ap (λ l. w ∷ l) (around k ws (omega arith))
 
 -- what the list becomes, where it is known around the gap
 pub becomes : (m : Memory) (r : Reading) → Shaped m → reads m ≡ Ok r → (p n : ℕ) → Gap m p n → (behind : Behind) → Stands m p n behind
-    → (ws : List Wanted) → All Given ws → total ws ≤ n * m.size → (l : List Entry) → list_around m p n (map entry_of ws) ≡ l → Distinct l → Becomes m (with_items m p n behind ws) l
+    → (ws : List Wanted) → AllByRecursion Given ws → total ws ≤ n * m.size → (l : List Entry) → list_around m p n (map entry_of ws) ≡ l → Distinct l → Becomes m (with_items m p n behind ws) l
 becomes m r shaped read p n gap behind here ws given fits l is distinct =
     let now = laid-reads m r shaped read p n gap behind here ws (all_fit ws given) fits (laid-bytes behind ws (n * m.size) given) in
     record {

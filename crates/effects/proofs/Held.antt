@@ -1,7 +1,7 @@
 -- What stands in a gap can be laid out again.
 use Rattle.std.proofs.Common.{◌≡◌, ℕ, zero, suc, ◌+◌, ◌*◌, ◌≤◌, Bool, true, false, not, ◌&&◌, ltb, leb, List, [], ◌∷◌, ◌++◌, map, length, take, drop, Ok, filter, sym, refl, ap, ◌∙◌, subst, arith}
 use mathlib.Core.List.{map-append}
-use Rattle.std.specs.List.{AllByRecursion as All}
+use Rattle.std.specs.List.{AllByRecursion}
 use Rattle.std.proofs.ByRecursion.{All-weaker, All-map, all_kept_by, kept_by_passes}
 use Rattle.std.proofs.lemmas.Bool.{and_parts, not-true}
 use Rattle.codes.specs.declared.kind.Kind.{Kind}
@@ -30,23 +30,23 @@ use Rattle.effects.proofs.Gaps.{around}
 use Rattle.effects.proofs.Spoken.{OfBytes, set-under}
 
 -- the entries of a gap
-all_unmap : {A B : Type 0} (P : B → Type 0) (f : A → B) (xs : List A) → All P (map f xs) → All (λ x. P (f x)) xs
+all_unmap : {A B : Type 0} (P : B → Type 0) (f : A → B) (xs : List A) → AllByRecursion P (map f xs) → AllByRecursion (λ x. P (f x)) xs
 all_unmap P f [] a = tt
 all_unmap P f (x ∷ xs) a = (a.0, all_unmap P f xs a.1)
 
 abbrev Holdable : Entry → Type 0
 Holdable e = rooms.Fit e × OfBytes e × (e.sealed ≡ false)
 
-both : {A : Type 0} (P Q : A → Type 0) (xs : List A) → All P xs → All Q xs → All (λ x. P x × Q x) xs
+both : {A : Type 0} (P Q : A → Type 0) (xs : List A) → AllByRecursion P xs → AllByRecursion Q xs → AllByRecursion (λ x. P x × Q x) xs
 both P Q [] a b = tt
 both P Q (x ∷ xs) a b = ((a.0, b.0), both P Q xs a.1 b.1)
 
-gap_holdable : (m : Memory) (r : Reading) → Shaped m → length m.bytes ≤ 1024 → reads m ≡ Ok r → (p n : ℕ) → All Holdable (gap_entries m p n)
+gap_holdable : (m : Memory) (r : Reading) → Shaped m → length m.bytes ≤ 1024 → reads m ≡ Ok r → (p n : ℕ) → AllByRecursion Holdable (gap_entries m p n)
 gap_holdable m r sh small e p n =
     let fs : List Found = found m.bytes in
     let test : Found → Bool = opens_in m p n in
-    let fit : All (λ f. rooms.Fit (entry m f)) fs = all_unmap rooms.Fit (entry m) fs (subst (All rooms.Fit) (sym (faultless m r e).list) (entries_fit m r small e)) in
-    let bytes : All (λ f. OfBytes (entry m f)) fs = All-weaker (λ f. next unpacked (drop f.at m.bytes) ≡ tile (holds f.set)) (λ f. OfBytes (entry m f)) (λ f h. set-under m sh.small f h) fs (found-next m.bytes) in
+    let fit : AllByRecursion (λ f. rooms.Fit (entry m f)) fs = all_unmap rooms.Fit (entry m) fs (subst (AllByRecursion rooms.Fit) (sym (faultless m r e).list) (entries_fit m r small e)) in
+    let bytes : AllByRecursion (λ f. OfBytes (entry m f)) fs = All-weaker (λ f. next unpacked (drop f.at m.bytes) ≡ tile (holds f.set)) (λ f. OfBytes (entry m f)) (λ f h. set-under m sh.small f h) fs (found-next m.bytes) in
     let kept = all_kept_by test (λ f. rooms.Fit (entry m f) × OfBytes (entry m f)) fs (both (λ f. rooms.Fit (entry m f)) (λ f. OfBytes (entry m f)) fs fit bytes) in
     let passed = kept_by_passes test fs in
     All-map Holdable (entry m) (filter test fs)
@@ -68,13 +68,13 @@ kind-again Application = refl
 kind-again Compact = refl
 kind-again Utf8 = refl
 
-items_back : (es : List Entry) → All Holdable es → map entry_of (map wanted_of es) ≡ es
+items_back : (es : List Entry) → AllByRecursion Holdable es → map entry_of (map wanted_of es) ≡ es
 items_back [] a = refl
 items_back (e ∷ es) a =
     let kind : kind_number (kind_of e.kind) ≡ e.kind = kind-back e.kind a.0.0.kind in
     (λ i. record { identifier = e.identifier; kind = kind i; object = e.object; sealed = sym a.0.2 i } ∷ items_back es a.1 i)
 
-items_given : (es : List Entry) → All Holdable es → All Given (map wanted_of es)
+items_given : (es : List Entry) → AllByRecursion Holdable es → AllByRecursion Given (map wanted_of es)
 items_given [] a = tt
 items_given (e ∷ es) a =
     (record { fit = record { identifier = a.0.0.identifier; object = (a.0.0.some, a.0.0.few) }; identifier = a.0.1.0; object = a.0.1.1 }, items_given es a.1)
@@ -94,7 +94,7 @@ unfolding items_of
 items_only m p n ws are = sym (again ws) ∙ ap (map wanted_of) are
 
 -- a list in which no identifier stands twice parts in one way only at an identifier
-once : (x : Entry) (ys : List Entry) (y : Entry) (zs : List Entry) → x.identifier ≡ y.identifier → All (λ d. x.identifier ≡ d.identifier → ⊥) (ys ++ (y ∷ zs)) → ⊥
+once : (x : Entry) (ys : List Entry) (y : Entry) (zs : List Entry) → x.identifier ≡ y.identifier → AllByRecursion (λ d. x.identifier ≡ d.identifier → ⊥) (ys ++ (y ∷ zs)) → ⊥
 once x [] y zs same a = a.0 same
 once x (z ∷ ys) y zs same a = once x ys y zs same a.1
 
@@ -102,7 +102,7 @@ part-once : (x y : Entry) (xs ys xs' ys' : List Entry) → x.identifier ≡ y.id
 part-once x y [] ys [] ys' same d e = (refl, cc, cc)
 part-once x y [] ys (a ∷ xs') ys' same d e =
     let those : ys ≡ xs' ++ (y ∷ ys') = cc in
-    absurd (once x xs' y ys' same (subst (All (λ d. x.identifier ≡ d.identifier → ⊥)) those d.0))
+    absurd (once x xs' y ys' same (subst (AllByRecursion (λ d. x.identifier ≡ d.identifier → ⊥)) those d.0))
 part-once x y (a ∷ xs) ys [] ys' same d e =
     let this : a ≡ y = cc in
     absurd (once a xs x ys (ap (λ b. b.identifier) this ∙ sym same) d.0)

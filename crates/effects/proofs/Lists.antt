@@ -1,6 +1,6 @@
 -- Lists in which no identifier stands twice, around one of their entries.
 use Rattle.std.proofs.Common.{◌≡◌, ℕ, zero, suc, ◌<◌, true, false, not, List, [], ◌∷◌, ◌++◌, length, get_or, take, drop, sym, refl, ap, ◌∙◌, subst, ⊎_elim, arith}
-use Rattle.std.specs.List.{AllByRecursion as All}
+use Rattle.std.specs.List.{AllByRecursion}
 use Rattle.std.proofs.lemmas.Slice.Eq.{bytes_eq-Decides}
 use Rattle.std.proofs.lemmas.List.Elements.{filter-append}
 use Rattle.std.proofs.ByRecursion.{All-append}
@@ -24,11 +24,11 @@ parted (y ∷ xs) x zero h is = ap (λ z. z ∷ xs) (is y)
 parted (y ∷ xs) x (suc k) h is = ap (λ l. y ∷ l) (parted xs x k (omega arith) is)
 
 -- a part of a list
-pub all_left : {A : Type 0} (P : A → Type 0) (xs ys : List A) → All P (xs ++ ys) → All P xs
+pub all_left : {A : Type 0} (P : A → Type 0) (xs ys : List A) → AllByRecursion P (xs ++ ys) → AllByRecursion P xs
 all_left P [] ys a = tt
 all_left P (x ∷ xs) ys a = (a.0, all_left P xs ys a.1)
 
-pub all_right : {A : Type 0} (P : A → Type 0) (xs ys : List A) → All P (xs ++ ys) → All P ys
+pub all_right : {A : Type 0} (P : A → Type 0) (xs ys : List A) → AllByRecursion P (xs ++ ys) → AllByRecursion P ys
 all_right P [] ys a = a
 all_right P (x ∷ xs) ys a = all_right P xs ys a.1
 
@@ -36,7 +36,7 @@ all_right P (x ∷ xs) ys a = all_right P xs ys a.1
 pub absent_before : (e : Entry) (xs ys : List Entry) → Distinct (xs ++ (e ∷ ys)) → Absent e.identifier xs
 absent_before e [] ys d = tt
 absent_before e (x ∷ xs) ys d =
-    let others : All (λ d. x.identifier ≡ d.identifier → ⊥) (e ∷ ys) = all_right (λ d. x.identifier ≡ d.identifier → ⊥) xs (e ∷ ys) d.0 in
+    let others : AllByRecursion (λ d. x.identifier ≡ d.identifier → ⊥) (e ∷ ys) = all_right (λ d. x.identifier ≡ d.identifier → ⊥) xs (e ∷ ys) d.0 in
     ((λ same. others.0 (sym same)), absent_before e xs ys d.1)
 
 pub distinct_left : (xs ys : List Entry) → Distinct (xs ++ ys) → Distinct xs
@@ -56,17 +56,17 @@ distinct_put [] e d a = (tt, tt)
 distinct_put (x ∷ l) e d a = (All-append (λ y. x.identifier ≡ y.identifier → ⊥) l (e ∷ []) d.0 ((λ same. a.0 (sym same)), tt), distinct_put l e d.1 a.1)
 
 pub distinct_change : (e e' : Entry) → e'.identifier ≡ e.identifier → (xs ys : List Entry) → Distinct (xs ++ (e ∷ ys)) → Distinct (xs ++ (e' ∷ ys))
-distinct_change e e' same [] ys d = (subst (λ id. All (λ y. id ≡ y.identifier → ⊥) ys) (sym same) d.0, d.1)
+distinct_change e e' same [] ys d = (subst (λ id. AllByRecursion (λ y. id ≡ y.identifier → ⊥) ys) (sym same) d.0, d.1)
 distinct_change e e' same (x ∷ xs) ys d =
     let P : Entry → Type 0 = λ y. x.identifier ≡ y.identifier → ⊥ in
-    let others : All P (e ∷ ys) = all_right P xs (e ∷ ys) d.0 in
+    let others : AllByRecursion P (e ∷ ys) = all_right P xs (e ∷ ys) d.0 in
     (All-append P xs (e' ∷ ys) (all_left P xs (e ∷ ys) d.0) ((λ q. others.0 (q ∙ same)), others.1), distinct_change e e' same xs ys d.1)
 
 pub distinct_drop : (e : Entry) (xs ys : List Entry) → Distinct (xs ++ (e ∷ ys)) → Distinct (xs ++ ys)
 distinct_drop e [] ys d = d.1
 distinct_drop e (x ∷ xs) ys d =
     let P : Entry → Type 0 = λ y. x.identifier ≡ y.identifier → ⊥ in
-    let others : All P (e ∷ ys) = all_right P xs (e ∷ ys) d.0 in
+    let others : AllByRecursion P (e ∷ ys) = all_right P xs (e ∷ ys) d.0 in
     (All-append P xs ys (all_left P xs (e ∷ ys) d.0) others.1, distinct_drop e xs ys d.1)
 
 -- each entry of an identifier becomes another: none where it is absent, and one where it stands

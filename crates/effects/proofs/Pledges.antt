@@ -1,7 +1,7 @@
 -- A readied set fills its blocks exactly.
 use Rattle.std.proofs.Common.{◌≡◌, ℕ, suc, ◌+◌, ◌-◌, ◌*◌, ◌/◌, ◌%◌, ◌<◌, ◌≤◌, min, false, List, [], ◌∷◌, ◌++◌, length, take, drop, replicate, sym, refl, ap, ◌∙◌, subst, append_assoc, append-nil, mul-le-mul_right, mod-lt, add-mul, arith}
 use native.Mathlib.Nat.{mod-add-div', mul-add-mod_self_right}
-use Rattle.std.specs.List.{ContainsAt as Has, AllByRecursion as All}
+use Rattle.std.specs.List.{ContainsAt as Has, AllByRecursion}
 use Rattle.std.proofs.ByRecursion.{all-has, has_append_right, All-take, All-get_or}
 use Rattle.std.proofs.lemmas.List.{drop_at, drop-drop, length-take-le}
 use Rattle.sets.specs.Sets.{Set, filler, holds, size}
@@ -51,7 +51,7 @@ gap_from m p n at xs ys inside long =
     ∙ ap (drop at) (drop_at front ((xs ++ ys) ++ rest) (p * m.size) (length-take-le (p * m.size) m.bytes inside) ∙ append_assoc xs ys rest)
     ∙ drop_at xs (ys ++ rest) at long
 
-module _ (m : Memory) (shaped : Shaped m) (p n : ℕ) (gap : Gap m p n) (behind : Behind) (ws : List Wanted) (k : ℕ) (all : All Fit ws) (in' : k < length ws) (small : m.size ≤ 256) (fits : readied_need m ws k ≤ n * m.size)
+module _ (m : Memory) (shaped : Shaped m) (p n : ℕ) (gap : Gap m p n) (behind : Behind) (ws : List Wanted) (k : ℕ) (all : AllByRecursion Fit ws) (in' : k < length ws) (small : m.size ≤ 256) (fits : readied_need m ws k ≤ n * m.size)
     (on : OnBlocks (with_readied m p n behind ws k) (readied_at m p ws k) (nth ws k)) where
   abbrev before : ℕ
   before = whole m.size (total (take k ws))

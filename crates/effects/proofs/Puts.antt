@@ -1,6 +1,6 @@
 -- A put, with room and without.
 use Rattle.std.proofs.Common.{◌≡◌, ℕ, ◌+◌, ◌-◌, ◌*◌, ◌<◌, ◌≤◌, List, [], ◌∷◌, ◌++◌, map, length, replicate, sym, refl, ap, ◌∙◌, subst, inr, arith}
-use Rattle.std.specs.List.{AllByRecursion as All}
+use Rattle.std.specs.List.{AllByRecursion}
 use Rattle.std.proofs.ByRecursion.{All-push}
 use Rattle.sets.specs.Sets.{holds}
 use Rattle.sets.specs.Objects.{unpacked}
@@ -34,7 +34,7 @@ run-smallest [] = refl
 run-smallest (w ∷ []) = refl
 run-smallest (w ∷ v ∷ ws) = ap (λ l. holds (formed 0 w) ∷ l) (run-smallest (v ∷ ws))
 
-suits_end : (m : Memory) (p n g : ℕ) → p + n ≡ length m.locks → (ws : List Wanted) → All Fit ws → Suits m p n (laid_gap End ws g) (smallest_tiles (map entry_of ws))
+suits_end : (m : Memory) (p n g : ℕ) → p + n ≡ length m.locks → (ws : List Wanted) → AllByRecursion Fit ws → Suits m p n (laid_gap End ws g) (smallest_tiles (map entry_of ws))
 suits_end m p n g last ws all =
     subst (Suits m p n (laid_gap End ws g)) (run-smallest ws)
     (inr (last, (laid (run ws 0), replicate (g - total ws) 0, refl, (laid-tiles unpacked (run ws 0) (run_layable ws 0 all (omega arith))).0, zeros-end (g - total ws))))
@@ -56,7 +56,7 @@ module _ (m : Memory) (r : Reading) (p n : ℕ) (ws : List Wanted) (i : Items m 
     most-is = put_wants r.entries (entry_of w) refl ∙ sym wants
 
     module _ (g : Given w) (new : Absent w.identifier r.entries) (fits : total (put_items ws w) ≤ n * m.size) where
-      all-given : All Given (put_items ws w)
+      all-given : AllByRecursion Given (put_items ws w)
       all-given = All-push Given ws w i.given g
 
       list-is : list_around m p n (map entry_of (put_items ws w)) ≡ put_list r.entries (entry_of w)

@@ -1,7 +1,7 @@
 -- A ready, with room and without.
 use Rattle.std.proofs.Common.{◌≡◌, ℕ, ◌*◌, ◌%◌, ◌≤◌, List, [], ◌∷◌, ◌++◌, map, Ok, sym, ap, ◌∙◌, subst, arith}
 use mathlib.Core.List.{map-append}
-use Rattle.std.specs.List.{AllByRecursion as All}
+use Rattle.std.specs.List.{AllByRecursion}
 use Rattle.std.proofs.ByRecursion.{All-append}
 use Rattle.sets.specs.Sets.{size}
 use Rattle.sets.specs.Scans.{Found}
@@ -30,14 +30,14 @@ module _ (m : Memory) (id : List ℕ) where
   abbrev OnWhole : Found → Type 0
   OnWhole f = identified f ≡ id → (f.at % m.size ≡ 0) × (size f.set % m.size ≡ 0)
 
-  absent_alone : (fs : List Found) → Absent id (map (entry m) fs) → All OnWhole fs
+  absent_alone : (fs : List Found) → Absent id (map (entry m) fs) → AllByRecursion OnWhole fs
   absent_alone [] a = tt
   absent_alone (f ∷ fs) a = ((λ e. absurd (a.0 (sym e))), absent_alone fs a.1)
 
   pub alone : (r : Reading) → reads m ≡ Ok r → (fs : List Found) (f : Found) (gs : List Found) → found m.bytes ≡ fs ++ (f ∷ gs) → identified f ≡ id → f.at % m.size ≡ 0 → size f.set % m.size ≡ 0 → Alone m id
   alone r e fs f gs among is starts fills =
       let d : Distinct (map (entry m) fs ++ (entry m f ∷ map (entry m) gs)) = subst Distinct (sym (faultless m r e).list ∙ ap (map (entry m)) among ∙ map-append (entry m) fs (f ∷ gs)) (reads_distinct m r e) in
-      subst (All OnWhole) (sym among)
+      subst (AllByRecursion OnWhole) (sym among)
       (All-append OnWhole fs (f ∷ gs)
       (absent_alone fs (subst (λ n. Absent n (map (entry m) fs)) is (absent_before (entry m f) (map (entry m) fs) (map (entry m) gs) d)))
       ((λ e. (starts, fills)), absent_alone gs (subst (λ n. Absent n (map (entry m) gs)) is (absent_behind (entry m f) (map (entry m) fs) (map (entry m) gs) d))))

@@ -2,7 +2,7 @@
 use Rattle.std.proofs.Common.{◌≡◌, ℕ, zero, suc, ◌+◌, ◌*◌, ◌/◌, ◌<◌, ◌≤◌, Bool, true, false, not, ◌&&◌, ltb, leb, ◌⊎◌, List, [], ◌∷◌, ◌++◌, map, length, take, drop, None, Ok, sym, refl, ap, ◌∙◌, subst, inl, inr, ⊎_elim, add-mul, le_of_mul-le-mul_right, arith, length-drop}
 use mathlib.Core.List.{map-append}
 use Rattle.std.specs.Option.{option_map}
-use Rattle.std.specs.List.{ContainsAt as Has, AllByRecursion as All}
+use Rattle.std.specs.List.{ContainsAt as Has, AllByRecursion}
 use Rattle.std.proofs.lemmas.Nat.{le-div, div_below}
 use Rattle.std.proofs.ByRecursion.{all-has, has_append_right, All-append, All-weaker}
 use Rattle.std.proofs.lemmas.Bool.{cases_Bool, cases_lt, and_from, and_left, and_right, not_from_true, le-leb, lt-ltb}
@@ -30,7 +30,7 @@ every-same : (p q : ℕ → Bool) (n : ℕ) → ((i : ℕ) → i < n → p i ≡
 every-same p q zero h = refl
 every-same p q (suc n) h = (λ i. every-same p q n (λ j g. h j (omega arith)) i && h n (omega arith) i)
 
-map_same : {A B : Type 0} (f g : A → B) (xs : List A) → All (λ x. f x ≡ g x) xs → map f xs ≡ map g xs
+map_same : {A B : Type 0} (f g : A → B) (xs : List A) → AllByRecursion (λ x. f x ≡ g x) xs → map f xs ≡ map g xs
 map_same f g [] a = refl
 map_same f g (x ∷ xs) a = (λ i. a.0 i ∷ map_same f g xs a.1 i)
 
@@ -76,7 +76,7 @@ module _ (m : Memory) (r : Reading) (sh : Shaped m) (e : reads m ≡ Ok r) (fs :
   stay : (g : Found) → sealed m g ≡ true → sealed (locking m p n) g ≡ true
   stay g t = every-from (λ i. locked_at (locking m p n) (g.at + i)) (size g.set) (λ i h. still_locked (g.at + i) (every-at (λ i. locked_at m (g.at + i)) (size g.set) i t h))
 
-  clear : All (ClearOf f) fs × All (ClearOf f) gs
+  clear : AllByRecursion (ClearOf f) fs × AllByRecursion (ClearOf f) gs
   clear = placed-clear _ 0 fs f gs among
 
   -- no byte is astray
@@ -120,7 +120,7 @@ module _ (m : Memory) (r : Reading) (sh : Shaped m) (e : reads m ≡ Ok r) (fs :
 
   list-is : map (entry (locking m p n)) (found m.bytes) ≡ sealed_list (identified f) r.entries
   list-is =
-      let same : (l : List Found) → All (ClearOf f) l → map (entry (locking m p n)) l ≡ map (entry m) l =
+      let same : (l : List Found) → AllByRecursion (ClearOf f) l → map (entry (locking m p n)) l ≡ map (entry m) l =
       λ l c. map_same (entry (locking m p n)) (entry m) l (All-weaker (ClearOf f) (λ g. entry (locking m p n) g ≡ entry m g) says_same l c) in
       ap (map (entry (locking m p n))) among ∙ map-append (entry (locking m p n)) fs (f ∷ gs)
       ∙ (λ i. same fs clear.0 i ++ (this-says i ∷ same gs clear.1 i))
@@ -129,8 +129,8 @@ module _ (m : Memory) (r : Reading) (sh : Shaped m) (e : reads m ≡ Ok r) (fs :
   others : (g : Found) → Has (found m.bytes) g → (identified g ≡ identified f → ⊥) → sealed (locking m p n) g ≡ sealed m g
   others g has differ =
       let Same : Found → Type 0 = λ x. (identified x ≡ identified f → ⊥) → sealed (locking m p n) x ≡ sealed m x in
-      let same : (l : List Found) → All (ClearOf f) l → All Same l = λ l c. All-weaker (ClearOf f) Same (λ x h ne. others_same x h) l c in
-      all-has Same (found m.bytes) g (subst (All Same) (sym among) (All-append Same fs (f ∷ gs) (same fs clear.0) ((λ ne. absurd (ne refl)), same gs clear.1))) has differ
+      let same : (l : List Found) → AllByRecursion (ClearOf f) l → AllByRecursion Same l = λ l c. All-weaker (ClearOf f) Same (λ x h ne. others_same x h) l c in
+      all-has Same (found m.bytes) g (subst (AllByRecursion Same) (sym among) (All-append Same fs (f ∷ gs) (same fs clear.0) ((λ ne. absurd (ne refl)), same gs clear.1))) has differ
 
   pub sealing : Sealing m r f p n
   sealing = record {

@@ -1,7 +1,7 @@
 -- A gap that is laid out holds bytes.
 use Rattle.std.specs.Prelude.{ℕ, ◌<◌, List, length}
 use Rattle.std.specs.Int.Digits.{AllBelowBase}
-use Rattle.std.specs.List.{AllByRecursion as All}
+use Rattle.std.specs.List.{AllByRecursion}
 use Rattle.layout.specs.declared.items.Behind.{Behind}
 use Rattle.layout.specs.Plans.{Wanted, Fit}
 use Rattle.layout.specs.Lays.{laid_gap, readied_gap}
@@ -13,7 +13,7 @@ pub record Given (w : Wanted) : Type 0 where
   pub object : AllBelowBase 256 w.object
 
 abbrev pub LaidBytes : Type 0
-LaidBytes = (behind : Behind) (ws : List Wanted) (g : ℕ) → All Given ws → AllBelowBase 256 (laid_gap behind ws g)
+LaidBytes = (behind : Behind) (ws : List Wanted) (g : ℕ) → AllByRecursion Given ws → AllBelowBase 256 (laid_gap behind ws g)
 
 abbrev pub ReadiedBytes : Type 0
-ReadiedBytes = (behind : Behind) (b : ℕ) (ws : List Wanted) (k g : ℕ) → All Given ws → k < length ws → AllBelowBase 256 (readied_gap behind b ws k g)
+ReadiedBytes = (behind : Behind) (b : ℕ) (ws : List Wanted) (k g : ℕ) → AllByRecursion Given ws → k < length ws → AllBelowBase 256 (readied_gap behind b ws k g)

@@ -1,6 +1,6 @@
 -- A change and a drop: another item in the place of one, and none.
 use Rattle.std.specs.Prelude.{◌≡◌, ℕ, suc, ◌*◌, ◌<◌, ◌≤◌, List, ◌∷◌, ◌++◌, map, length, take, drop, Ok}
-use Rattle.std.specs.List.{AllByRecursion as All}
+use Rattle.std.specs.List.{AllByRecursion}
 use Rattle.codes.specs.Numbers.{kind_number}
 use Rattle.sets.specs.Scans.{Found}
 use Rattle.sets.specs.Readings.{Memory, Entry, Reading, identified, entry, reads}
@@ -18,7 +18,7 @@ pub record ItemAt (m : Memory) (r : Reading) (fs : List Found) (f : Found) (gs :
   pub shaped : Shaped m
   pub read : reads m ≡ Ok r
   pub lies : Lies m fs f gs p n
-  pub given : All Given ws
+  pub given : AllByRecursion Given ws
   pub inside : k < length ws
   pub before : map entry_of (take k ws) ≡ gap_before m fs
   pub is : entry_of (nth ws k) ≡ entry m f

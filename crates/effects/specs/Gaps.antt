@@ -1,6 +1,6 @@
 -- A gap with its items, and the memory in which it is laid out anew.
 use Rattle.std.specs.Prelude.{◌≡◌, ℕ, ◌*◌, ◌≤◌, false, List, map, length, Ok}
-use Rattle.std.specs.List.{ContainsAt as Has, AllByRecursion as All}
+use Rattle.std.specs.List.{ContainsAt as Has, AllByRecursion}
 use Rattle.sets.specs.Scans.{Found, free}
 use Rattle.sets.specs.Readings.{Memory, Entry, Reading, found, sealed, reads}
 use Rattle.rivals.specs.Memories.{Shaped, Rival, Gap, gap_entries, seals}
@@ -16,7 +16,7 @@ pub record Items (m : Memory) (r : Reading) (p n : ℕ) (ws : List Wanted) : Typ
   pub shaped : Shaped m
   pub read : reads m ≡ Ok r
   pub gap : Gap m p n
-  pub given : All Given ws
+  pub given : AllByRecursion Given ws
   pub are : map entry_of ws ≡ gap_entries m p n
 
 -- that gap with these items

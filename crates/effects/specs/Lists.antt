@@ -1,6 +1,6 @@
 -- The list of a tag's entries, and what each call makes of it.
 use Rattle.std.specs.Prelude.{◌≡◌, ℕ, Bool, true, cond, not, List, [], ◌∷◌, ◌++◌, map, filter, ◌≢◌}
-use Rattle.std.specs.List.{AllByRecursion as All}
+use Rattle.std.specs.List.{AllByRecursion}
 use Rattle.std.specs.Str.{bytes_eq}
 use Rattle.sets.specs.Readings.{Entry}
 
@@ -10,7 +10,7 @@ named id e = bytes_eq id e.identifier
 
 -- none has that identifier
 abbrev pub Absent : List ℕ → List Entry → Type 0
-Absent id l = All (λ e. id ≢ e.identifier) l
+Absent id l = AllByRecursion (λ e. id ≢ e.identifier) l
 
 -- an entry with another kind and object, and one that is sealed
 abbrev pub with_object : ℕ → List ℕ → Entry → Entry

@@ -2,7 +2,7 @@
 use Rattle.std.proofs.Common.{◌≡◌, ℕ, zero, suc, ◌+◌, ◌-◌, ◌*◌, ◌%◌, ◌<◌, ◌≤◌, min, List, [], ◌∷◌, ◌++◌, map, length, take, drop, replicate, sym, refl, ap, ◌∙◌, subst, inl, inr, ⊎_elim, append_assoc, mod-lt, mod-eq_of_lt, arith, length-append}
 use mathlib.Core.Path.{transport}
 use native.Mathlib.Nat.{mul-add-mod_self_right, mod_self, mod-add-mod}
-use Rattle.std.specs.List.{AllByRecursion as All}
+use Rattle.std.specs.List.{AllByRecursion}
 use Rattle.std.proofs.lemmas.Bool.{cases_lt, cases_eq}
 use Rattle.std.proofs.ByRecursion.{All-append, All-take, All-drop, All-get_or}
 use Rattle.sets.specs.Sets.{Set, Tile, filler, holds, size}
@@ -66,7 +66,7 @@ alone_plan b w pos small =
     ap (λ l. run (w ∷ []) (min l 256) ++ replicate (l - min l 256) filler) left
     ∙ (λ j. (holds (formed (all j) w) ∷ []) ++ replicate (none j) filler)
 
-module _ (b : ℕ) (pos : 0 < b) (small : b ≤ 256) (ws : List Wanted) (k g : ℕ) (in' : k < length ws) (all : All Fit ws) (need : ready_need b (take k ws) (nth ws k) (drop (suc k) ws) ≤ g) (behind : Behind) where
+module _ (b : ℕ) (pos : 0 < b) (small : b ≤ 256) (ws : List Wanted) (k g : ℕ) (in' : k < length ws) (all : AllByRecursion Fit ws) (need : ready_need b (take k ws) (nth ws k) (drop (suc k) ws) ≤ g) (behind : Behind) where
   w : Wanted
   w = nth ws k
 
@@ -88,10 +88,10 @@ module _ (b : ℕ) (pos : 0 < b) (small : b ≤ 256) (ws : List Wanted) (k g : �
   fit-w : Fit (nth ws k)
   fit-w = All-get_or Fit ws k nothing in' all
 
-  fit-front : All Fit (take k ws)
+  fit-front : AllByRecursion Fit (take k ws)
   fit-front = All-take Fit k ws all
 
-  fit-last : All Fit (drop (suc k) ws)
+  fit-last : AllByRecursion Fit (drop (suc k) ws)
   fit-last = All-drop Fit (suc k) ws all
 
   mid-is : locked_plan (nth ws k ∷ []) (whole b (total (take k ws)) + whole b (least (nth ws k)) - whole b (total (take k ws))) ≡ holds (formed (to_block b (least (nth ws k))) (nth ws k)) ∷ []
@@ -99,8 +99,8 @@ module _ (b : ℕ) (pos : 0 < b) (small : b ≤ 256) (ws : List Wanted) (k g : �
       let e : whole b (total (take k ws)) + whole b (least (nth ws k)) - whole b (total (take k ws)) ≡ whole b (least (nth ws k)) = omega arith in
       ap (locked_plan (nth ws k ∷ [])) e ∙ alone_plan b (nth ws k) pos small
 
-  mid_layable : All (Layable unpacked) (holds (formed (to_block b (least (nth ws k))) (nth ws k)) ∷ [])
-  mid_layable = subst (All (Layable unpacked)) mid-is (plan_layable (nth ws k ∷ []) (whole b (total (take k ws)) + whole b (least (nth ws k)) - whole b (total (take k ws))) (fit-w, tt))
+  mid_layable : AllByRecursion (Layable unpacked) (holds (formed (to_block b (least (nth ws k))) (nth ws k)) ∷ [])
+  mid_layable = subst (AllByRecursion (Layable unpacked)) mid-is (plan_layable (nth ws k ∷ []) (whole b (total (take k ws)) + whole b (least (nth ws k)) - whole b (total (take k ws))) (fit-w, tt))
 
   pub three_say : open_entries (front ++ (mid ++ last)) ≡ map entry_of ws
   three_say =
@@ -116,7 +116,7 @@ module _ (b : ℕ) (pos : 0 < b) (small : b ≤ 256) (ws : List Wanted) (k g : �
       length-append (laid_gap Locked (take k ws) at) (laid_gap Locked (nth ws k ∷ []) (at + bytes - at) ++ laid_gap behind (drop (suc k) ws) (g - (at + bytes)))
       ∙ omega (arith, gap-long Locked (take k ws) at fit-front (omega arith), length-append (laid_gap Locked (nth ws k ∷ []) (at + bytes - at)) (laid_gap behind (drop (suc k) ws) (g - (at + bytes))), gap-long Locked (nth ws k ∷ []) (at + bytes - at) (fit-w, tt) (omega (arith, total-one (nth ws k))), gap-long behind (drop (suc k) ws) (g - (at + bytes)) fit-last (omega arith))
 
-  three_layable : All (Layable unpacked) last → All (Layable unpacked) (front ++ (mid ++ last))
+  three_layable : AllByRecursion (Layable unpacked) last → AllByRecursion (Layable unpacked) (front ++ (mid ++ last))
   three_layable l = All-append (Layable unpacked) front (mid ++ last) (plan_layable (take k ws) at fit-front) (All-append (Layable unpacked) mid last mid_layable l)
 
   three-laid : (ts : List Tile) → laid (front ++ (mid ++ ts)) ≡ laid_gap Locked (take k ws) at ++ (laid_gap Locked (nth ws k ∷ []) (at + bytes - at) ++ laid ts)
@@ -140,7 +140,7 @@ module _ (b : ℕ) (pos : 0 < b) (small : b ≤ 256) (ws : List Wanted) (k g : �
       }
 
 -- the bytes suit the gap, before a locked block and at the end
-suits_three : (m : Memory) (p n b : ℕ) (pos : 0 < b) (small : b ≤ 256) (ws : List Wanted) (k g : ℕ) (in' : k < length ws) (all : All Fit ws) (need : ready_need b (take k ws) (nth ws k) (drop (suc k) ws) ≤ g) (behind : Behind) → Stands m p n behind
+suits_three : (m : Memory) (p n b : ℕ) (pos : 0 < b) (small : b ≤ 256) (ws : List Wanted) (k g : ℕ) (in' : k < length ws) (all : AllByRecursion Fit ws) (need : ready_need b (take k ws) (nth ws k) (drop (suc k) ws) ≤ g) (behind : Behind) → Stands m p n behind
     → Suits m p n (readied_gap behind b ws k g) (front b pos small ws k g in' all need behind ++ (mid b pos small ws k g in' all need behind ++ last b pos small ws k g in' all need behind))
 suits_three m p n b pos small ws k g in' all need Locked here =
     let ts : List Tile = locked_plan (drop (suc k) ws) (g - (whole b (total (take k ws)) + whole b (least (nth ws k)))) in

@@ -1,7 +1,7 @@
 -- A gap laid out anew suits its memory.
 use Rattle.std.proofs.Common.{◌≡◌, ℕ, zero, suc, ◌+◌, ◌-◌, ◌*◌, ◌≤◌, false, List, [], ◌∷◌, ◌++◌, map, length, replicate, Ok, refl, ap, ◌∙◌, subst, inl, inr, append-nil, arith, length-append}
 use lib.ListN.{length-replicate}
-use Rattle.std.specs.List.{AllByRecursion as All}
+use Rattle.std.specs.List.{AllByRecursion}
 use Rattle.std.proofs.ByRecursion.{All-append}
 use Rattle.packing.proofs.Choosing.{kind-below}
 use Rattle.sets.specs.Sets.{Tile, filler, holds}
@@ -33,18 +33,18 @@ form_layable extra w f few = (form_writable extra w.identifier w.kind w.object f
 pub form-told : (extra : ℕ) (w : Wanted) → Fit w → rooms.told (formed extra w) false ≡ entry_of w
 form-told extra w f = (form-says (entry_of w) extra (entry-fit w f)).1
 
-pub run_layable : (ws : List Wanted) (extra : ℕ) → All Fit ws → extra ≤ 256 → All (Layable unpacked) (run ws extra)
+pub run_layable : (ws : List Wanted) (extra : ℕ) → AllByRecursion Fit ws → extra ≤ 256 → AllByRecursion (Layable unpacked) (run ws extra)
 unfolding run
 run_layable [] extra all few = tt
 run_layable (w ∷ []) extra all few = (form_layable extra w all.0 few, tt)
 run_layable (w ∷ v ∷ ws) extra all few = (form_layable 0 w all.0 (omega arith), run_layable (v ∷ ws) extra all.1 few)
 
-fillers_layable : (k : ℕ) → All (Layable unpacked) (replicate k filler)
+fillers_layable : (k : ℕ) → AllByRecursion (Layable unpacked) (replicate k filler)
 fillers_layable zero = tt
 fillers_layable (suc k) = (tt, fillers_layable k)
 
 -- what tiles say
-run-says : (ws : List Wanted) (extra : ℕ) → All Fit ws → open_entries (run ws extra) ≡ map entry_of ws
+run-says : (ws : List Wanted) (extra : ℕ) → AllByRecursion Fit ws → open_entries (run ws extra) ≡ map entry_of ws
 unfolding run
 run-says [] extra all = refl
 run-says (w ∷ []) extra all = ap (λ e. e ∷ []) (form-told extra w all.0)
@@ -59,18 +59,18 @@ fillers_say : (k : ℕ) → open_entries (replicate k filler) ≡ []
 fillers_say zero = refl
 fillers_say (suc k) = fillers_say k
 
-pub plan_layable : (ws : List Wanted) (g : ℕ) → All Fit ws → All (Layable unpacked) (locked_plan ws g)
+pub plan_layable : (ws : List Wanted) (g : ℕ) → AllByRecursion Fit ws → AllByRecursion (Layable unpacked) (locked_plan ws g)
 plan_layable ws g all =
     let left : ℕ = g - total ws in
     All-append (Layable unpacked) (run ws (taken ws (g - total ws))) (replicate (g - total ws - taken ws (g - total ws)) filler) (run_layable ws (taken ws (g - total ws)) all (taken-few ws (g - total ws)).0) (fillers_layable (g - total ws - taken ws (g - total ws)))
 
-pub plan_says : (ws : List Wanted) (g : ℕ) → All Fit ws → open_entries (locked_plan ws g) ≡ map entry_of ws
+pub plan_says : (ws : List Wanted) (g : ℕ) → AllByRecursion Fit ws → open_entries (locked_plan ws g) ≡ map entry_of ws
 plan_says ws g all =
     says-append (run ws (taken ws (g - total ws))) (replicate (g - total ws - taken ws (g - total ws)) filler)
     ∙ (λ j. run-says ws (taken ws (g - total ws)) all j ++ fillers_say (g - total ws - taken ws (g - total ws)) j) ∙ append-nil (map entry_of ws)
 
 -- the bytes of a gap
-pub gap-long : (behind : Behind) (ws : List Wanted) (g : ℕ) → All Fit ws → total ws ≤ g → length (laid_gap behind ws g) ≡ g
+pub gap-long : (behind : Behind) (ws : List Wanted) (g : ℕ) → AllByRecursion Fit ws → total ws ≤ g → length (laid_gap behind ws g) ≡ g
 gap-long Locked ws g all fits =
     let left : ℕ = g - total ws in
     let few = taken-few ws (g - total ws) in
@@ -88,11 +88,11 @@ abbrev pub tiles : Behind → List Wanted → ℕ → List Tile
 tiles Locked ws g = locked_plan ws g
 tiles End ws g = run ws 0
 
-pub tiles_say : (behind : Behind) (ws : List Wanted) (g : ℕ) → All Fit ws → open_entries (tiles behind ws g) ≡ map entry_of ws
+pub tiles_say : (behind : Behind) (ws : List Wanted) (g : ℕ) → AllByRecursion Fit ws → open_entries (tiles behind ws g) ≡ map entry_of ws
 tiles_say Locked ws g all = plan_says ws g all
 tiles_say End ws g all = run-says ws 0 all
 
-suits : (m : Memory) (p n g : ℕ) (behind : Behind) → Stands m p n behind → (ws : List Wanted) → All Fit ws → Suits m p n (laid_gap behind ws g) (tiles behind ws g)
+suits : (m : Memory) (p n g : ℕ) (behind : Behind) → Stands m p n behind → (ws : List Wanted) → AllByRecursion Fit ws → Suits m p n (laid_gap behind ws g) (tiles behind ws g)
 suits m p n g Locked here ws all = inl (here, (laid-tiles unpacked (locked_plan ws g) (plan_layable ws g all)).0)
 suits m p n g End here ws all = inr (here, (laid (run ws 0), replicate (g - total ws) 0, refl, (laid-tiles unpacked (run ws 0) (run_layable ws 0 all (omega arith))).0, zeros-end (g - total ws)))
 

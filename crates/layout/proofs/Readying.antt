@@ -1,7 +1,7 @@
 -- A readied set in its gap.
 use Rattle.std.proofs.Common.{◌≡◌, ℕ, zero, suc, ◌+◌, ◌-◌, ◌<◌, ◌≤◌, List, [], ◌∷◌, ◌++◌, map, length, take, drop, Err, sym, refl, ap, ◌∙◌, subst, append-nil, add-one, arith, length-drop}
 use Rattle.std.proofs.lemmas.List.{length-map, take_all, drop_all}
-use Rattle.std.specs.List.{AllByRecursion as All}
+use Rattle.std.specs.List.{AllByRecursion}
 use Rattle.std.proofs.ByRecursion.{All-get_or, All-take, All-drop}
 use Rattle.writing.specs.Puts.{Puts}
 use Rattle.writing.proofs.Puttings.{puts_then}
@@ -12,16 +12,16 @@ use Rattle.layout.specs.declared.items.LayoutFault.TheVariants.{Unfit, TooSmall,
 use Rattle.layout.specs.Plans.{Wanted, Fit, least, total, nothing, nth, ready_need}
 use Rattle.layout.specs.Lays.{wanted, FirstUnfit, Lays, Totals, Readies}
 
-no_unfit : (ws : List Wanted) (i : ℕ) → All Fit ws → FirstUnfit ws i → ⊥
+no_unfit : (ws : List Wanted) (i : ℕ) → AllByRecursion Fit ws → FirstUnfit ws i → ⊥
 no_unfit ws i all h = h.unfit nothing (All-get_or Fit ws i nothing h.inside all)
 
 -- what was measured is measured again, and laid
-pub never_total : (ws : List Wanted) (room : ℕ) (f : LayoutFault) → All Fit ws → total ws ≤ room → Totals ws room (Err f) → ⊥
+pub never_total : (ws : List Wanted) (room : ℕ) (f : LayoutFault) → AllByRecursion Fit ws → total ws ≤ room → Totals ws room (Err f) → ⊥
 never_total ws room (Unfit i) all le h = no_unfit ws i all h
 never_total ws room TooSmall all le h = omega arith
 never_total ws room NoPlace all le h = h
 
-pub never_laid : (behind : Behind) (ws : List Wanted) (old new : List ℕ) (f : LayoutFault) → All Fit ws → total ws ≤ length old → Lays behind ws old new (Err f) → ⊥
+pub never_laid : (behind : Behind) (ws : List Wanted) (old new : List ℕ) (f : LayoutFault) → AllByRecursion Fit ws → total ws ≤ length old → Lays behind ws old new (Err f) → ⊥
 never_laid behind ws old new (Unfit i) all le h = no_unfit ws i all h.0
 never_laid behind ws old new TooSmall all le h = omega (arith, h.0)
 never_laid behind ws old new NoPlace all le h = h
@@ -68,15 +68,15 @@ module _ (items : List Item) (n : ℕ) (in' : n < length items) where
   back-part =
       ap (map wanted) (take_all (length items - (n + 1)) (drop (n + 1) items) (omega (arith, length-drop (n + 1) items))) ∙ map-drop (n + 1) items ∙ ap (λ k. drop k (map wanted items)) (add-one n)
 
-  module _ (all : All Fit (map wanted items)) where
-    pub front-fit : All Fit (map wanted (take (n - 0) items))
-    front-fit = subst (All Fit) (sym front-part) (All-take Fit n (map wanted items) all)
+  module _ (all : AllByRecursion Fit (map wanted items)) where
+    pub front-fit : AllByRecursion Fit (map wanted (take (n - 0) items))
+    front-fit = subst (AllByRecursion Fit) (sym front-part) (All-take Fit n (map wanted items) all)
 
-    pub mid-fit : All Fit (map wanted (take (n + 1 - n) (drop n items)))
-    mid-fit = subst (All Fit) (sym mid-part) (All-get_or Fit (map wanted items) n nothing (omega (arith, long)) all, tt)
+    pub mid-fit : AllByRecursion Fit (map wanted (take (n + 1 - n) (drop n items)))
+    mid-fit = subst (AllByRecursion Fit) (sym mid-part) (All-get_or Fit (map wanted items) n nothing (omega (arith, long)) all, tt)
 
-    pub back-fit : All Fit (map wanted (take (length items - (n + 1)) (drop (n + 1) items)))
-    back-fit = subst (All Fit) (sym back-part) (All-drop Fit (suc n) (map wanted items) all)
+    pub back-fit : AllByRecursion Fit (map wanted (take (length items - (n + 1)) (drop (n + 1) items)))
+    back-fit = subst (AllByRecursion Fit) (sym back-part) (All-drop Fit (suc n) (map wanted items) all)
 
   pub front-total : total (map wanted (take (n - 0) items)) ≡ total (take n (map wanted items))
   front-total = ap total front-part

@@ -2,7 +2,7 @@
 use Rattle.std.proofs.Common.{◌≡◌, ℕ, zero, suc, ◌+◌, ◌-◌, ◌<◌, ◌≤◌, min, cond, ltb, List, [], ◌∷◌, ◌++◌, map, length, get_or, take, drop, replicate, Err, sym, refl, ap, ◌∙◌, subst, ⊎_elim, append_assoc, append-nil, arith, length-append, length-drop}
 use borrow.Rule.Slice.PartMut.{put_mid}
 use lib.ListN.{length-replicate}
-use Rattle.std.specs.List.{AllByRecursion as All}
+use Rattle.std.specs.List.{AllByRecursion}
 use Rattle.std.proofs.lemmas.Bool.{cases_Bool, ltb-true, ltb-false, cond-true, cond-false, cond_both}
 use Rattle.std.proofs.lemmas.List.{length-map, take_more, take_all, drop_all, drop-drop, take-append-drop}
 use Rattle.std.proofs.ByRecursion.{All-get_or}
@@ -105,7 +105,7 @@ extra_of (w ∷ ws) extra = extra
 pub more-extra : (extra : ℕ) (w : Wanted) → size (formed extra w) ≡ least w + extra
 more-extra extra w = omega arith
 
-pub run-bytes : (ws : List Wanted) (extra : ℕ) → All Fit ws → extra ≤ 256 → length (laid (run ws extra)) ≡ total ws + extra_of ws extra
+pub run-bytes : (ws : List Wanted) (extra : ℕ) → AllByRecursion Fit ws → extra ≤ 256 → length (laid (run ws extra)) ≡ total ws + extra_of ws extra
 unfolding run laid total
 run-bytes [] extra all few = refl
 run-bytes (w ∷ []) extra all few = length-append (encode (formed extra w)) [] ∙ omega (arith, encoded extra w all.0 few, more-extra extra w)
@@ -138,7 +138,7 @@ module _ (items : List Item) (extra i : ℕ) (d : Item) (in' : i < length items)
   pub pad-is : pad (map wanted items) extra i ≡ cond (ltb (i + 1) (length items)) 0 extra
   pad-is = ap (λ n. cond (ltb (i + 1) n) 0 extra) long
 
-  pub fit_at : All Fit (map wanted items) → Fit (wanted (get_or items i d))
+  pub fit_at : AllByRecursion Fit (map wanted items) → Fit (wanted (get_or items i d))
   fit_at all = subst Fit (here items i d in') (All-get_or Fit (map wanted items) i (wanted d) (omega (arith, long)) all)
 
   tile-at : get_or (run (map wanted items) extra) i filler ≡ holds (formed (pad (map wanted items) extra i) (wanted (get_or items i d)))
@@ -147,7 +147,7 @@ module _ (items : List Item) (extra i : ℕ) (d : Item) (in' : i < length items)
   pub more-at : laid (take (i + 1) (run (map wanted items) extra)) ≡ laid (take i (run (map wanted items) extra)) ++ encode (formed (pad (map wanted items) extra i) (wanted (get_or items i d)))
   more-at = laid_more (run (map wanted items) extra) i (omega (arith, run_long (map wanted items) extra, long)) ∙ ap (λ t. laid (take i (run (map wanted items) extra)) ++ written t) tile-at
 
-  pub room_at : (at room : ℕ) → All Fit (map wanted items) → extra ≤ 256 → at ≡ 0 + length (laid (take i (run (map wanted items) extra))) → length (laid (run (map wanted items) extra)) ≤ room → at + size (formed (pad (map wanted items) extra i) (wanted (get_or items i d))) ≤ room
+  pub room_at : (at room : ℕ) → AllByRecursion Fit (map wanted items) → extra ≤ 256 → at ≡ 0 + length (laid (take i (run (map wanted items) extra))) → length (laid (run (map wanted items) extra)) ≤ room → at + size (formed (pad (map wanted items) extra i) (wanted (get_or items i d))) ≤ room
   room_at at room all few e fits =
       omega (arith, e, laid-front (run (map wanted items) extra) (i + 1), ap length more-at, length-append (laid (take i (run (map wanted items) extra))) (encode (formed (pad (map wanted items) extra i) (wanted (get_or items i d)))), encoded (pad (map wanted items) extra i) (wanted (get_or items i d)) (fit_at all) (pad-few (map wanted items) extra i few))
 
@@ -178,11 +178,11 @@ pub taken-few : (ws : List Wanted) (left : ℕ) → (taken ws left ≤ 256) × (
 taken-few [] left = (omega arith, omega arith)
 taken-few (w ∷ ws) left = (omega arith, omega arith)
 
-pub taken-bytes : (ws : List Wanted) (left : ℕ) → All Fit ws → length (laid (run ws (taken ws left))) ≡ total ws + taken ws left
+pub taken-bytes : (ws : List Wanted) (left : ℕ) → AllByRecursion Fit ws → length (laid (run ws (taken ws left))) ≡ total ws + taken ws left
 taken-bytes [] left all = run-bytes [] 0 all (omega arith)
 taken-bytes (w ∷ ws) left all = run-bytes (w ∷ ws) (min left 256) all (omega arith)
 
-pub plain-bytes : (ws : List Wanted) → All Fit ws → length (laid (run ws 0)) ≡ total ws
+pub plain-bytes : (ws : List Wanted) → AllByRecursion Fit ws → length (laid (run ws 0)) ≡ total ws
 plain-bytes [] all = run-bytes [] 0 all (omega arith) ∙ omega arith
 plain-bytes (w ∷ ws) all = run-bytes (w ∷ ws) 0 all (omega arith) ∙ omega arith
 

@@ -1,6 +1,6 @@
 -- Sums of smallest forms, item by item.
 use Rattle.std.proofs.Common.{◌≡◌, ℕ, zero, suc, ◌+◌, ◌<◌, ◌≤◌, cond, eqb, ltb, List, [], ◌∷◌, ◌++◌, map, length, get_or, take, Err, sym, ap, ◌∙◌, subst, arith}
-use Rattle.std.specs.List.{AllByRecursion as All}
+use Rattle.std.specs.List.{AllByRecursion}
 use Rattle.std.proofs.lemmas.List.{length-map, get_or-map, get_or_default, take_more, take_all}
 use Rattle.std.proofs.ByRecursion.{All-push}
 use Rattle.std.proofs.lemmas.Bool.{cond_both}
@@ -52,13 +52,13 @@ module _ (items : List Item) (i : ℕ) (d : Item) (in' : i < length items) where
   pub one_more : take (i + 1) (map wanted items) ≡ take i (map wanted items) ++ (wanted (get_or items i d) ∷ [])
   one_more = take_more (map wanted items) i (wanted d) inside ∙ ap (λ w. take i (map wanted items) ++ (w ∷ [])) here
 
-  pub fit-more : All Fit (take i (map wanted items)) → Fit (wanted (get_or items i d)) → All Fit (take (i + 1) (map wanted items))
-  fit-more all fit = subst (All Fit) (sym one_more) (All-push Fit (take i (map wanted items)) (wanted (get_or items i d)) all fit)
+  pub fit-more : AllByRecursion Fit (take i (map wanted items)) → Fit (wanted (get_or items i d)) → AllByRecursion Fit (take (i + 1) (map wanted items))
+  fit-more all fit = subst (AllByRecursion Fit) (sym one_more) (All-push Fit (take i (map wanted items)) (wanted (get_or items i d)) all fit)
 
   pub sum_more : (sum n : ℕ) → sum ≡ total (take i (map wanted items)) → n ≡ least (wanted (get_or items i d)) → sum + n ≡ total (take (i + 1) (map wanted items))
   sum_more sum n e f = (λ j. e j + f j) ∙ sym (total-push (take i (map wanted items)) (wanted (get_or items i d))) ∙ ap total (sym one_more)
 
-  pub unfit_here : All Fit (take i (map wanted items)) → (Fit (wanted (get_or items i d)) → ⊥) → FirstUnfit (map wanted items) i
+  pub unfit_here : AllByRecursion Fit (take i (map wanted items)) → (Fit (wanted (get_or items i d)) → ⊥) → FirstUnfit (map wanted items) i
   unfit_here all no-fit = record {
     before = all;
     inside = inside;

@@ -1,7 +1,7 @@
 -- What a memory reads as once one of its gaps is laid out anew; and why a gap that is too small is too small for all.
 use Rattle.std.specs.Prelude.{◌≡◌, ℕ, suc, ◌+◌, ◌*◌, ◌%◌, ◌<◌, ◌≤◌, false, List, ◌∷◌, ◌++◌, map, length, take, drop, Ok}
 use Rattle.std.specs.Int.Digits.{AllBelowBase}
-use Rattle.std.specs.List.{AllByRecursion as All}
+use Rattle.std.specs.List.{AllByRecursion}
 use Rattle.codes.specs.Numbers.{kind_number}
 use Rattle.sets.specs.Sets.{Set, content, size}
 use Rattle.sets.specs.Scans.{Found}
@@ -33,7 +33,7 @@ pub record NowReads (m : Memory) (p n : ℕ) (ns : List ℕ) (es : List Entry) :
 abbrev pub LaidReads : Type 0
 LaidReads =
     (m : Memory) (r : Reading) → Shaped m → reads m ≡ Ok r → (p n : ℕ) → Gap m p n → (behind : Behind) → Stands m p n behind
-    → (ws : List Wanted) → All Fit ws → total ws ≤ n * m.size → AllBelowBase 256 (laid_gap behind ws (n * m.size))
+    → (ws : List Wanted) → AllByRecursion Fit ws → total ws ≤ n * m.size → AllBelowBase 256 (laid_gap behind ws (n * m.size))
     → NowReads m p n (laid_gap behind ws (n * m.size)) (map entry_of ws)
 
 -- a set of that item stands at an address where a block begins, and takes whole blocks
@@ -56,7 +56,7 @@ RivalsNeed =
 abbrev pub ReadyReads : Type 0
 ReadyReads =
     (m : Memory) (r : Reading) → Shaped m → reads m ≡ Ok r → (p n : ℕ) → Gap m p n → (behind : Behind) → Stands m p n behind
-    → (ws : List Wanted) (k : ℕ) → All Fit ws → k < length ws → m.size ≤ 256
+    → (ws : List Wanted) (k : ℕ) → AllByRecursion Fit ws → k < length ws → m.size ≤ 256
     → ready_need m.size (take k ws) (nth ws k) (drop (suc k) ws) ≤ n * m.size → AllBelowBase 256 (readied_gap behind m.size ws k (n * m.size))
     → NowReads m p n (readied_gap behind m.size ws k (n * m.size)) (map entry_of ws)
     × OnBlocks (relaid m p n (readied_gap behind m.size ws k (n * m.size))) (p * m.size + whole m.size (total (take k ws))) (nth ws k)

@@ -1,6 +1,6 @@
 -- What a gap holds after its layout, and when there is none.
 use Rattle.std.specs.Prelude.{◌≡◌, ℕ, suc, ◌+◌, ◌-◌, ◌<◌, ◌≤◌, ◌⊎◌, List, [], ◌∷◌, ◌++◌, length, take, drop, replicate, Ok, Err, Result, slice_index_or}
-use Rattle.std.specs.List.{AllByRecursion as All}
+use Rattle.std.specs.List.{AllByRecursion}
 use Rattle.sets.specs.Layouts.{laid}
 use Rattle.layout.specs.declared.items.Item.{Item}
 use Rattle.layout.specs.declared.items.Behind.{Behind}
@@ -20,20 +20,20 @@ laid_gap End ws g = laid (last_plan ws) ++ replicate (g - total ws) 0
 
 -- the first that no set can hold
 pub record FirstUnfit (ws : List Wanted) (i : ℕ) : Type 0 where
-  pub before : All Fit (take i ws)
+  pub before : AllByRecursion Fit (take i ws)
   pub inside : i < length ws
   pub unfit : (d : Wanted) → Fit (slice_index_or ws i d) → ⊥
 
 -- the gap as it was to be laid; or as before, with the reason
 abbrev pub Lays : Behind → List Wanted → List ℕ → List ℕ → Result (Unit {0}) LayoutFault → Type 0
-Lays behind ws old new (Ok x) = All Fit ws × (total ws ≤ length old) × (new ≡ laid_gap behind ws (length old))
+Lays behind ws old new (Ok x) = AllByRecursion Fit ws × (total ws ≤ length old) × (new ≡ laid_gap behind ws (length old))
 Lays behind ws old new (Err (Unfit i)) = FirstUnfit ws i × (new ≡ old)
 Lays behind ws old new (Err TooSmall) = (length old < total ws) × (new ≡ old)
 Lays behind ws old new (Err NoPlace) = ⊥
 
 -- the sum of the smallest forms, where it is no more than a room
 abbrev pub Totals : List Wanted → ℕ → Result ℕ LayoutFault → Type 0
-Totals ws room (Ok n) = All Fit ws × (n ≡ total ws) × (n ≤ room)
+Totals ws room (Ok n) = AllByRecursion Fit ws × (n ≡ total ws) × (n ≤ room)
 Totals ws room (Err (Unfit i)) = FirstUnfit ws i
 Totals ws room (Err TooSmall) = room < total ws
 Totals ws room (Err NoPlace) = ⊥
@@ -51,7 +51,7 @@ readied_gap behind b ws n g =
 
 abbrev pub Readies : Behind → ℕ → List Wanted → ℕ → List ℕ → List ℕ → Result Readied LayoutFault → Type 0
 Readies behind b ws n old new (Ok s) =
-    All Fit ws × (ready_need b (take n ws) (nth ws n) (drop (suc n) ws) ≤ length old)
+    AllByRecursion Fit ws × (ready_need b (take n ws) (nth ws n) (drop (suc n) ws) ≤ length old)
     × (s.at ≡ whole b (total (take n ws))) × (s.bytes ≡ whole b (least (nth ws n)))
     × (new ≡ readied_gap behind b ws n (length old))
 Readies behind b ws n old new (Err (Unfit i)) = FirstUnfit ws i × (new ≡ old)

@@ -1,6 +1,6 @@
 // A gap is measured first, and then written from its start.
 ghost use Rattle.std.specs.Prelude.{◌≡◌, ◌+◌, ◌-◌, ◌^◌, ◌<◌, ◌≤◌, ◌++◌, map, length, replicate, if◌then◌else◌, MatchResult, nat_lt};
-ghost use Rattle.std.specs.List.{AllByRecursion as All};
+ghost use Rattle.std.specs.List.{AllByRecursion};
 ghost use Rattle.sets.specs.Sets.{size};
 ghost use Rattle.sets.specs.Layouts.{laid};
 ghost use Rattle.sets.specs.Writing.{encode};
@@ -61,7 +61,7 @@ fn pad_of(i: usize, count: usize, extra: usize) -> usize
 
 // The items from the gap's start, the last with `extra` bytes of offset and pad, and where they end.
 fn write_run(gap: &mut [u8], items: &[Item], extra: usize) -> usize
-    requires fit { All Fit (map wanted items.now) }
+    requires fit { AllByRecursion Fit (map wanted items.now) }
     requires few { extra ≤ 256 }
     requires room { length (laid (run (map wanted items.now) extra)) ≤ length gap.old }
     ensures { Puts 0 (laid (run (map wanted items.now) extra)) gap.old gap.new result }

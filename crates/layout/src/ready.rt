@@ -1,6 +1,6 @@
 // A gap with one set readied: alone on whole blocks.
 ghost use Rattle.std.specs.Prelude.{◌≡◌, suc, ◌+◌, ◌-◌, ◌%◌, ◌^◌, ◌<◌, ◌≤◌, map, length, take, drop};
-ghost use Rattle.std.specs.List.{AllByRecursion as All};
+ghost use Rattle.std.specs.List.{AllByRecursion};
 ghost use Rattle.writing.specs.Puts.{Puts};
 ghost use Rattle.layout.specs.Plans.{Fit, least, total, whole, nth};
 ghost use Rattle.layout.specs.Lays.{wanted, laid_gap, three_parts, Readies};
@@ -21,7 +21,7 @@ fn on_blocks(bytes: usize, block: usize) -> usize
 
 // The sum of the smallest forms of items that were measured already.
 fn sum_of(items: &[Item], room: usize) -> usize
-    requires fit { All Fit (map wanted items.now) }
+    requires fit { AllByRecursion Fit (map wanted items.now) }
     requires small { (total (map wanted items.now) ≤ room) × (room < 2 ^ 63) }
     ensures { result ≡ total (map wanted items.now) }
 {
@@ -41,7 +41,7 @@ struct Taken {
 
 fn sums(items: &[Item], named: usize, room: usize) -> Taken
     requires named { named < length items.now }
-    requires fit { All Fit (map wanted items.now) }
+    requires fit { AllByRecursion Fit (map wanted items.now) }
     requires small { (total (map wanted items.now) ≤ room) × (room < 2 ^ 63) }
     ensures before { result.before ≡ total (take named (map wanted items.now)) }
     ensures alone { result.alone ≡ least (nth (map wanted items.now) named) }
@@ -57,7 +57,7 @@ fn sums(items: &[Item], named: usize, room: usize) -> Taken
 // The items in a part of the gap.
 fn lay_part(gap: &mut [u8], from: usize, to: usize, items: &[Item], behind: Behind)
     requires part { (from ≤ to) × (to ≤ length gap.old) }
-    requires fit { All Fit (map wanted items.now) }
+    requires fit { AllByRecursion Fit (map wanted items.now) }
     requires room { total (map wanted items.now) ≤ to - from }
     ensures { Puts from (laid_gap behind (map wanted items.now) (to - from)) gap.old gap.new to }
 {
@@ -70,7 +70,7 @@ fn lay_part(gap: &mut [u8], from: usize, to: usize, items: &[Item], behind: Behi
 // The items before the readied one, that one alone, and those behind it, each in its part of the gap.
 fn lay_three(gap: &mut [u8], at: usize, end: usize, items: &[Item], named: usize, behind: Behind)
     requires parts { (at ≤ end) × (end ≤ length gap.old) × (named < length items.now) }
-    requires fit { All Fit (map wanted items.now) }
+    requires fit { AllByRecursion Fit (map wanted items.now) }
     requires before { total (take named (map wanted items.now)) ≤ at }
     requires alone { least (nth (map wanted items.now) named) ≤ end - at }
     requires after { total (drop (suc named) (map wanted items.now)) ≤ length gap.old - end }

@@ -1,6 +1,6 @@
 -- Identifiers by the records of their sets.
 use Rattle.std.proofs.Common.{◌≡◌, ℕ, zero, suc, ◌+◌, ◌<◌, ◌≤◌, Bool, true, false, cond, ◌&&◌, ◌||◌, eqb, List, [], ◌∷◌, length, get_or, take, drop, Some, None, Decides, sym, refl, ap, ◌∙◌, subst, ⊎_elim, arith, length-drop}
-use Rattle.std.specs.List.{AllByRecursion as All}
+use Rattle.std.specs.List.{AllByRecursion}
 use Rattle.std.specs.Str.{bytes_eq}
 use Rattle.std.proofs.lemmas.Slice.Eq.{bytes_eq-Decides}
 use Rattle.std.proofs.ByRecursion.{All-map, All-get_or, All-take, All-weaker, has_get_or}
@@ -80,9 +80,9 @@ part-inside at e (led c) k top h = omega (arith, offset-low e)
 pub set-inside : (xs : List ℕ) (f : Found) → behind f ≤ length xs → Inside xs (recorded f.at f.set)
 set-inside xs f h = part-inside f.at f.set.extra f.set.name (long (length f.set.object) + length f.set.object) (length xs) (omega arith)
 
-pub all-inside : (xs : List ℕ) (rs : List SetRecord) → rs ≡ records (found xs) → All (Inside xs) rs
+pub all-inside : (xs : List ℕ) (rs : List SetRecord) → rs ≡ records (found xs) → AllByRecursion (Inside xs) rs
 all-inside xs rs e =
-    subst (All (Inside xs)) (sym e) (All-map (Inside xs) (λ (f : Found). recorded f.at f.set) (found xs) (All-weaker (λ f. behind f ≤ length xs) (λ f. Inside xs (recorded f.at f.set)) (set-inside xs) (found xs) (found_inside xs)))
+    subst (AllByRecursion (Inside xs)) (sym e) (All-map (Inside xs) (λ (f : Found). recorded f.at f.set) (found xs) (All-weaker (λ f. behind f ≤ length xs) (λ f. Inside xs (recorded f.at f.set)) (set-inside xs) (found xs) (found_inside xs)))
 
 name-is : (xs : List ℕ) (at e : ℕ) (n : Name) → Fitting n → part n ≡ take (length (part n)) (drop (name_at at e n) xs) → cond (eqb (number n) 0) (take (length (part n)) (drop (name_at at e n) xs)) (number n ∷ []) ≡ content n
 name-is xs at e (bare n) fit h = cond-false (eqb n 0) [] (n ∷ []) (ne_eqb n 0 (λ z. omega (arith, fit.0)))
@@ -94,11 +94,11 @@ set_says xs f e =
     let p : parse (drop f.at xs) ≡ tile (holds f.set) = next-parse unpacked (drop f.at xs) (holds f.set) e in
     name-is xs f.at f.set.extra f.set.name (front (drop f.at xs) (holds f.set) p).1.0 (parts_stand xs f.at f.set p).name
 
-says : (xs : List ℕ) → All (λ f. content_in xs (recorded f.at f.set) ≡ identified f) (found xs)
+says : (xs : List ℕ) → AllByRecursion (λ f. content_in xs (recorded f.at f.set) ≡ identified f) (found xs)
 says xs = All-weaker (λ f. next unpacked (drop f.at xs) ≡ tile (holds f.set)) (λ f. content_in xs (recorded f.at f.set) ≡ identified f) (set_says xs) (found xs) (found-next xs)
 
 -- what stood before a set, by records and by sets
-any-records : (xs c : List ℕ) (fs : List Found) → All (λ f. content_in xs (recorded f.at f.set) ≡ identified f) fs → any (λ g. bytes_eq (content_in xs g) c) (records fs) ≡ any (λ f. bytes_eq (identified f) c) fs
+any-records : (xs c : List ℕ) (fs : List Found) → AllByRecursion (λ f. content_in xs (recorded f.at f.set) ≡ identified f) fs → any (λ g. bytes_eq (content_in xs g) c) (records fs) ≡ any (λ f. bytes_eq (identified f) c) fs
 any-records xs c [] h = refl
 any-records xs c (f ∷ fs) h = λ i. bytes_eq (h.0 i) c || any-records xs c fs h.1 i
 

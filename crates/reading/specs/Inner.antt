@@ -1,6 +1,6 @@
 -- What the inner functions of the check answer.
 use Rattle.std.specs.Prelude.{◌≡◌, ℕ, ◌+◌, ◌/◌, ◌<◌, ◌≤◌, Bool, true, false, cond, List, [], ◌∷◌, length, get_or, take, drop, Some, None, Option, ◌==◌, slice_index_or}
-use Rattle.std.specs.List.{AllByRecursion as All}
+use Rattle.std.specs.List.{AllByRecursion}
 use Rattle.std.specs.Str.{bytes_eq}
 use Rattle.sets.specs.Readings.{every}
 use Rattle.scan.specs.declared.views.SetRecord.{SetRecord}
@@ -25,4 +25,4 @@ abbrev pub Inside : List ℕ → SetRecord → Type 0
 Inside xs r = r.id_at + r.id_len ≤ length xs
 
 abbrev pub AllInside : List ℕ → List SetRecord → Type 0
-AllInside xs rs = All (Inside xs) rs
+AllInside xs rs = AllByRecursion (Inside xs) rs

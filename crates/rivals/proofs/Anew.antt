@@ -1,7 +1,7 @@
 -- A gap of a memory laid out anew.
 use Rattle.std.proofs.Common.{◌≡◌, ℕ, ◌+◌, ◌*◌, ◌<◌, ◌≤◌, Bool, true, false, ltb, leb, List, [], ◌∷◌, ◌++◌, map, length, Some, None, Ok, filter, sym, refl, ap, ◌∙◌, subst, inl, inr, ⊎_elim, append_assoc, append-nil, arith}
 use mathlib.Core.List.{map-append}
-use Rattle.std.specs.List.{AllByRecursion as All}
+use Rattle.std.specs.List.{AllByRecursion}
 use Rattle.std.specs.Str.{bytes_eq}
 use Rattle.std.proofs.lemmas.List.Elements.{filter-append}
 use Rattle.std.proofs.ByRecursion.{all-has, All-weaker, has_push}
@@ -106,17 +106,17 @@ module _ (m : Memory) where
   same_not : (f g : Found) → (identified f ≡ identified g → ⊥) → bytes_eq (identified f) (identified g) ≡ false
   same_not f g differ = open_unless (bytes_eq (identified f) (identified g)) (λ t. differ ((bytes_eq-Decides (identified f) (identified g)).0 t))
 
-  stood-more : (seen : List Found) (f : Found) (fs : List Found) → All (λ g. stood seen g ≡ false) fs → All (λ d. identified f ≡ d.identifier → ⊥) (map (entry m) fs) → All (λ g. stood (seen ++ f ∷ []) g ≡ false) fs
+  stood-more : (seen : List Found) (f : Found) (fs : List Found) → AllByRecursion (λ g. stood seen g ≡ false) fs → AllByRecursion (λ d. identified f ≡ d.identifier → ⊥) (map (entry m) fs) → AllByRecursion (λ g. stood (seen ++ f ∷ []) g ≡ false) fs
   stood-more seen f [] a b = tt
   stood-more seen f (g ∷ fs) a b =
       (any_append (λ x. bytes_eq (identified x) (identified g)) seen (f ∷ []) a.0 (or_from (bytes_eq (identified f) (identified g)) false (same_not f g b.0) refl), stood-more seen f fs a.1 b.1)
 
-  once-from : (seen fs : List Found) → All (λ f. stood seen f ≡ false) fs → Distinct (map (entry m) fs) → repeat_from seen fs ≡ None
+  once-from : (seen fs : List Found) → AllByRecursion (λ f. stood seen f ≡ false) fs → Distinct (map (entry m) fs) → repeat_from seen fs ≡ None
   once-from seen [] a d = refl
   once-from seen (f ∷ fs) a d =
       cond-false (stood seen f) (Some f.at) (repeat_from (seen ++ f ∷ []) fs) a.0 ∙ once-from (seen ++ f ∷ []) fs (stood-more seen f fs a.1 d.0) d.1
 
-  none-stood : (fs : List Found) → All (λ f. stood [] f ≡ false) fs
+  none-stood : (fs : List Found) → AllByRecursion (λ f. stood [] f ≡ false) fs
   none-stood [] = tt
   none-stood (f ∷ fs) = (refl, none-stood fs)
 
@@ -124,28 +124,28 @@ module _ (m : Memory) where
   once_of fs d = once-from [] fs (none-stood fs) d
 
   -- and back
-  stood_less : (seen : List Found) (f : Found) (fs : List Found) → All (λ g. stood (seen ++ f ∷ []) g ≡ false) fs → All (λ d. identified f ≡ d.identifier → ⊥) (map (entry m) fs)
+  stood_less : (seen : List Found) (f : Found) (fs : List Found) → AllByRecursion (λ g. stood (seen ++ f ∷ []) g ≡ false) fs → AllByRecursion (λ d. identified f ≡ d.identifier → ⊥) (map (entry m) fs)
   stood_less seen f [] a = tt
   stood_less seen f (g ∷ fs) a =
       let each = any-not (λ x. bytes_eq (identified x) (identified g)) (seen ++ f ∷ []) a.0 in
       let last : bytes_eq (identified f) (identified g) ≡ false = all-has (λ x. bytes_eq (identified x) (identified g) ≡ false) (seen ++ f ∷ []) f each (has_push seen f) in
       ((λ e. both_ways (bytes_eq (identified f) (identified g)) last ((bytes_eq-Decides (identified f) (identified g)).1 e)), stood_less seen f fs a.1)
 
-  stood-from : (seen fs : List Found) → repeat_from seen fs ≡ None → All (λ f. stood seen f ≡ false) fs
+  stood-from : (seen fs : List Found) → repeat_from seen fs ≡ None → AllByRecursion (λ f. stood seen f ≡ false) fs
   stood-from seen [] e = tt
   stood-from seen (f ∷ fs) e =
       ⊎_elim (λ (t : stood seen f ≡ true).
       let some : Some f.at ≡ None = sym (cond-true (stood seen f) (Some f.at) (repeat_from (seen ++ f ∷ []) fs) t) ∙ e in
       let z : ◌≡◌ {A = ℕ} 0 1 = cc in absurd (omega arith))
       (λ (n : stood seen f ≡ false).
-      let more : All (λ g. stood (seen ++ f ∷ []) g ≡ false) fs = stood-from (seen ++ f ∷ []) fs (sym (cond-false (stood seen f) (Some f.at) (repeat_from (seen ++ f ∷ []) fs) n) ∙ e) in
+      let more : AllByRecursion (λ g. stood (seen ++ f ∷ []) g ≡ false) fs = stood-from (seen ++ f ∷ []) fs (sym (cond-false (stood seen f) (Some f.at) (repeat_from (seen ++ f ∷ []) fs) n) ∙ e) in
       (n, All-weaker (λ g. stood (seen ++ f ∷ []) g ≡ false) (λ g. stood seen g ≡ false) (λ g k. any-front (λ x. bytes_eq (identified x) (identified g)) seen (f ∷ []) k) fs more))
       (cases_Bool (stood seen f))
 
   distinct_from : (seen fs : List Found) → repeat_from seen fs ≡ None → Distinct (map (entry m) fs)
   distinct_from seen [] e = tt
   distinct_from seen (f ∷ fs) e =
-      let a : All (λ g. stood seen g ≡ false) (f ∷ fs) = stood-from seen (f ∷ fs) e in
+      let a : AllByRecursion (λ g. stood seen g ≡ false) (f ∷ fs) = stood-from seen (f ∷ fs) e in
       let rest : repeat_from (seen ++ f ∷ []) fs ≡ None = sym (cond-false (stood seen f) (Some f.at) (repeat_from (seen ++ f ∷ []) fs) a.0) ∙ e in
       (stood_less seen f fs (stood-from (seen ++ f ∷ []) fs rest), distinct_from (seen ++ f ∷ []) fs rest)
 
@@ -264,7 +264,7 @@ free-after m r sh e p n gap last ns es len small suits =
     omega (arith, all)
 
 -- a list parts at an entry in one way only
-once_in : (x : Entry) (ys zs : List Entry) → All (λ d. x.identifier ≡ d.identifier → ⊥) (ys ++ (x ∷ zs)) → ⊥
+once_in : (x : Entry) (ys zs : List Entry) → AllByRecursion (λ d. x.identifier ≡ d.identifier → ⊥) (ys ++ (x ∷ zs)) → ⊥
 once_in x [] zs a = a.0 refl
 once_in x (y ∷ ys) zs a = once_in x ys zs a.1
 
@@ -272,10 +272,10 @@ part-once : (x : Entry) (xs ys xs' ys' : List Entry) → Distinct (xs ++ (x ∷ 
 part-once x [] ys [] ys' d e = (refl, cc)
 part-once x [] ys (a ∷ xs') ys' d e =
     let those : ys ≡ xs' ++ (x ∷ ys') = cc in
-    absurd (once_in x xs' ys' (subst (All (λ d. x.identifier ≡ d.identifier → ⊥)) those d.0))
+    absurd (once_in x xs' ys' (subst (AllByRecursion (λ d. x.identifier ≡ d.identifier → ⊥)) those d.0))
 part-once x (a ∷ xs) ys [] ys' d e =
     let this : a ≡ x = cc in
-    absurd (once_in x xs ys (subst (λ b. All (λ d. b.identifier ≡ d.identifier → ⊥) (xs ++ (x ∷ ys))) this d.0))
+    absurd (once_in x xs ys (subst (λ b. AllByRecursion (λ d. b.identifier ≡ d.identifier → ⊥) (xs ++ (x ∷ ys))) this d.0))
 part-once x (a ∷ xs) ys (b ∷ xs') ys' d e =
     let this : a ≡ b = cc in
     let those : xs ++ (x ∷ ys) ≡ xs' ++ (x ∷ ys') = cc in

@@ -1,7 +1,7 @@
 -- From what a memory reads as to its tiles, and back.
 use Rattle.std.proofs.Common.{◌≡◌, ℕ, ◌+◌, ◌*◌, ◌/◌, ◌%◌, ◌<◌, ◌≤◌, Bool, true, false, cond, not, ◌&&◌, ltb, leb, List, [], ◌∷◌, ◌++◌, map, length, drop, Some, None, Ok, filter, Option, sym, refl, ap, ◌∙◌, subst, inl, inr, ⊎_elim, append_assoc, arith, length-append, length-drop}
 use Rattle.std.specs.Option.{option_map}
-use Rattle.std.specs.List.{AllByRecursion as All}
+use Rattle.std.specs.List.{AllByRecursion}
 use Rattle.std.proofs.lemmas.List.{drop_at, drop-drop}
 use Rattle.std.proofs.lemmas.Bool.{cases_Bool, both_ways, cases_lt, lt-ltb, le-leb, leb-true, ltb-true, and_left, and_right, and_from, and_parts, not_from_false, not_from_true, or_cases, or_left, or_right}
 use Rattle.sets.specs.Sets.{Tile, filler, holds, size, wide}
@@ -177,7 +177,7 @@ used-is [] at a = refl
 used-is (filler ∷ ts) at a = used-is ts (at + 1) a
 used-is (holds s ∷ ts) at a = used-is ts (at + size s) (at + size s)
 
-pub whole_is : (b : ℕ) (name : List ℕ) (ts : List Tile) (at : ℕ) → All (λ f. identified f ≡ name → (f.at % b ≡ 0) × (size f.set % b ≡ 0)) (placed at ts) → Whole sets_format b name at ts
+pub whole_is : (b : ℕ) (name : List ℕ) (ts : List Tile) (at : ℕ) → AllByRecursion (λ f. identified f ≡ name → (f.at % b ≡ 0) × (size f.set % b ≡ 0)) (placed at ts) → Whole sets_format b name at ts
 unfolding placed
 whole_is b name [] at a = tt
 whole_is b name (filler ∷ ts) at a = whole_is b name ts (at + 1) a

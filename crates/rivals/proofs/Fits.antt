@@ -1,6 +1,6 @@
 -- What a memory reads as can be held by sets again.
 use Rattle.std.proofs.Common.{◌≡◌, ℕ, zero, suc, ◌+◌, ◌-◌, ◌*◌, ◌/◌, ◌%◌, ◌<◌, ◌≤◌, true, not, ◌&&◌, eqb, ltb, leb, List, [], ◌∷◌, map, length, take, drop, Ok, sym, ap, ◌∙◌, subst, arith, length-drop}
-use Rattle.std.specs.List.{AllByRecursion as All}
+use Rattle.std.specs.List.{AllByRecursion}
 use Rattle.std.proofs.lemmas.List.{length-take-le, length-map}
 use Rattle.std.proofs.ByRecursion.{All-weaker, All-map}
 use Rattle.std.proofs.lemmas.Bool.{cond_both, ne_eqb, eqb-false, lt-ltb, leb-true, and_from, and_parts, not_from_false}
@@ -120,7 +120,7 @@ set-fits m small f e =
 pub entries_fit : EntriesFit
 entries_fit m r small e =
     let each = All-weaker (λ f. next unpacked (drop f.at m.bytes) ≡ tile (holds f.set)) (λ f. Fit (entry m f)) (λ f h. set-fits m small f h) (found m.bytes) (found-next m.bytes) in
-    subst (All Fit) (faultless m r e).list (All-map Fit (entry m) (found m.bytes) each)
+    subst (AllByRecursion Fit) (faultless m r e).list (All-map Fit (entry m) (found m.bytes) each)
 
 -- a form says its entry
 pub form-says : FormSays

@@ -1,7 +1,7 @@
 -- Each promise, about what memories read as.
 use Rattle.std.proofs.Common.{◌≡◌, ℕ, ◌+◌, ◌*◌, ◌%◌, false, List, [], ◌∷◌, ◌++◌, map, Ok, sym, refl, ap, ◌∙◌, subst, arith}
 use mathlib.Core.List.{map-append}
-use Rattle.std.specs.List.{AllByRecursion as All}
+use Rattle.std.specs.List.{AllByRecursion}
 use Rattle.sets.specs.Sets.{holds, size}
 use Rattle.sets.specs.Scans.{Found}
 use Rattle.sets.specs.Readings.{Memory, Entry, Reading, found, locked_at, identified, entry, reads}
@@ -99,5 +99,5 @@ readied_needs m r sh e fs f gs p n in' m' v e' alone =
       arith,
       run-bytes m p n,
       theory.room_readied sets_format m m' r.entries r.entries (laid m r sh e) (laid m' r (shaped-rival m m' v sh) e') v p (p + n) (run_of m p n in'.gap) (gap_before m fs) (entry m f) (gap_behind m gs) is
-          (whole_is m.size (identified f) (tiles_of m') 0 (subst (λ b. All (λ g. identified g ≡ identified f → (g.at % b ≡ 0) × (size g.set % b ≡ 0)) (found m'.bytes)) v.size alone)),
+          (whole_is m.size (identified f) (tiles_of m') 0 (subst (λ b. AllByRecursion (λ g. identified g ≡ identified f → (g.at % b ≡ 0) × (size g.set % b ≡ 0)) (found m'.bytes)) v.size alone)),
     )

@@ -1,7 +1,7 @@
 -- Rival memories, and the gaps of a memory.
 use Rattle.std.specs.Prelude.{◌≡◌, ℕ, suc, ◌+◌, ◌-◌, ◌*◌, ◌%◌, ◌<◌, ◌≤◌, Bool, true, false, cond, not, ◌&&◌, ◌⊎◌, List, [], ◌∷◌, map, length, filter, nat_le, nat_lt, slice_index, slice_index_or}
 use Rattle.std.specs.Int.Digits.{AllBelowBase}
-use Rattle.std.specs.List.{AllByRecursion as All}
+use Rattle.std.specs.List.{AllByRecursion}
 use Rattle.sets.specs.Sets.{size}
 use Rattle.sets.specs.Scans.{Found}
 use Rattle.sets.specs.Readings.{Memory, Entry, found, locked_at, sealed, identified, entry}
@@ -48,4 +48,4 @@ gap_entries m p n = map (entry m) (filter (opens_in m p n) (found m.bytes))
 
 -- the sets of an identifier take whole blocks, pad included: so they share them with no other
 abbrev pub Alone : Memory → List ℕ → Type 0
-Alone m name = All (λ f. identified f ≡ name → (f.at % m.size ≡ 0) × (size f.set % m.size ≡ 0)) (found m.bytes)
+Alone m name = AllByRecursion (λ f. identified f ≡ name → (f.at % m.size ≡ 0) × (size f.set % m.size ≡ 0)) (found m.bytes)

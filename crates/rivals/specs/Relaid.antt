@@ -1,7 +1,7 @@
 -- A gap laid out anew: only its own sets change.
 use Rattle.std.specs.Prelude.{◌≡◌, ℕ, ◌+◌, ◌-◌, ◌*◌, ◌<◌, false, ◌⊎◌, List, [], ◌∷◌, ◌++◌, map, length, take, drop, Ok, filter, ◌≢◌, nat_le, nat_lt}
 use Rattle.std.specs.Int.Digits.{AllBelowBase}
-use Rattle.std.specs.List.{AllByRecursion as All}
+use Rattle.std.specs.List.{AllByRecursion}
 use Rattle.sets.specs.Sets.{Tile, filler, holds}
 use Rattle.sets.specs.Scans.{Found, placed, free}
 use Rattle.sets.specs.Tilings.{Tiled, Ended}
@@ -45,7 +45,7 @@ list_around m p n es = map (entry m) (sets_before m p) ++ (es ++ map (entry m) (
 -- no identifier stands twice
 abbrev pub Distinct : List Entry → Type 0
 Distinct [] = Unit {0}
-Distinct (e ∷ es) = All (λ d. e.identifier ≢ d.identifier) es × Distinct es
+Distinct (e ∷ es) = AllByRecursion (λ d. e.identifier ≢ d.identifier) es × Distinct es
 
 abbrev pub ReadsDistinct : Type 0
 ReadsDistinct = (m : Memory) (r : Reading) → reads m ≡ Ok r → Distinct r.entries

@@ -1,6 +1,6 @@
 -- The part of a list that stands in a gap, and the room that it needs.
 use Rattle.std.specs.Prelude.{◌≡◌, ℕ, zero, suc, ◌+◌, ◌-◌, ◌%◌, ◌≤◌, Bool, cond, List, [], ◌∷◌, length, Ok}
-use Rattle.std.specs.List.{AllByRecursion as All}
+use Rattle.std.specs.List.{AllByRecursion}
 use Rattle.codes.specs.Table.{code, packed_code, first_code}
 use Rattle.sets.specs.Sets.{content, Set, size}
 use Rattle.sets.specs.Writing.{shortest}
@@ -41,7 +41,7 @@ told s sealed = record {
 
 -- what a memory of at most 1,024 bytes reads as can be held again
 abbrev pub EntriesFit : Type 0
-EntriesFit = (m : Memory) (r : Reading) → length m.bytes ≤ 1024 → reads m ≡ Ok r → All Fit r.entries
+EntriesFit = (m : Memory) (r : Reading) → length m.bytes ≤ 1024 → reads m ≡ Ok r → AllByRecursion Fit r.entries
 
 -- the form of such an entry, with whatever offset and pad, says the entry
 abbrev pub FormSays : Type 0

@@ -1,6 +1,6 @@
 -- Tiles laid out anew.
 use Rattle.std.proofs.Common.{◌≡◌, ℕ, ◌+◌, ◌≤◌, List, [], ◌∷◌, ◌++◌, take, None, sym, refl, ap, ◌∙◌, subst, ⊎_elim, append_assoc, zero-add, arith}
-use Rattle.std.specs.List.{AllByRecursion as All}
+use Rattle.std.specs.List.{AllByRecursion}
 use Rattle.std.proofs.lemmas.List.{take_at}
 use Rattle.std.proofs.lemmas.Bool.{cases_lt}
 use Rattle.sets.specs.Sets.{content, Set, Tile, filler, holds, size, wide}
@@ -18,7 +18,7 @@ written-reads u filler l = record { all = refl; alone = λ rest. ap (checked u) 
 written-reads u (holds s) l =
     record { all = encoded_size s l.0; alone = λ rest. ap (checked u) (comes_back s rest l.0) ∙ ap (examined s) l.1.1 }
 
-laid-tiled : (u : Unpack) (ts : List Tile) → All (Layable u) ts → Tiled u ts (laid ts)
+laid-tiled : (u : Unpack) (ts : List Tile) → AllByRecursion (Layable u) ts → Tiled u ts (laid ts)
 unfolding Tiled laid
 laid-tiled u [] a = refl
 laid-tiled u (t ∷ ts) a = (written t, laid ts, refl, written-reads u t a.0, laid-tiled u ts a.1)
@@ -55,7 +55,7 @@ part_on : (at a : ℕ) (t : Tile) (ts : List Tile) → Parted (at + wide t) a ts
 unfolding Parted span
 part_on at a t ts p = (t ∷ p.0, p.1, ap (λ l. t ∷ l) p.2, omega (arith, p.3))
 
-part : (at a : ℕ) (ts : List Tile) → at ≤ a → a ≤ at + span ts → All (Apart a) (placed at ts) → Parted at a ts
+part : (at a : ℕ) (ts : List Tile) → at ≤ a → a ≤ at + span ts → AllByRecursion (Apart a) (placed at ts) → Parted at a ts
 unfolding placed span
 part at a [] h g d = part_here at a [] h (omega arith)
 part at a (filler ∷ ts) h g d =

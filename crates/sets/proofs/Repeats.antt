@@ -1,6 +1,6 @@
 -- The sets of a memory one by one: each is what stands at its address, and the first that repeats an identifier.
 use Rattle.std.proofs.Common.{◌≡◌, ℕ, ◌+◌, ◌<◌, ◌≤◌, true, false, List, [], ◌∷◌, ◌++◌, length, get_or, take, drop, Some, None, sym, ap, ◌∙◌, append_assoc}
-use Rattle.std.specs.List.{AllByRecursion as All}
+use Rattle.std.specs.List.{AllByRecursion}
 use Rattle.std.proofs.lemmas.List.{take_more, drop_more, drop_all, drop_at, drop-drop}
 use Rattle.std.proofs.lemmas.Bool.{cond-true, cond-false}
 use Rattle.sets.specs.Sets.{Tile, filler, holds, size}
@@ -12,7 +12,7 @@ use Rattle.sets.specs.Readings.{found, stood, repeat_from}
 use Rattle.sets.proofs.Tilings.{checked-tile, scan-tiles}
 
 -- each set is what stands at its address
-placed-next : (u : Unpack) (xs : List ℕ) (at : ℕ) (ts : List Tile) (bs rest : List ℕ) → Tiled u ts bs → drop at xs ≡ bs ++ rest → All (λ f. next u (drop f.at xs) ≡ tile (holds f.set)) (placed at ts)
+placed-next : (u : Unpack) (xs : List ℕ) (at : ℕ) (ts : List Tile) (bs rest : List ℕ) → Tiled u ts bs → drop at xs ≡ bs ++ rest → AllByRecursion (λ f. next u (drop f.at xs) ≡ tile (holds f.set)) (placed at ts)
 unfolding placed Tiled
 placed-next u xs at [] bs rest t e = tt
 placed-next u xs at (filler ∷ ts) bs rest t e =
@@ -22,7 +22,7 @@ placed-next u xs at (holds s ∷ ts) bs rest t e =
     let cut = e ∙ ap (λ l. l ++ rest) t.2 ∙ append_assoc t.0 t.1 rest in
     (ap (next u) cut ∙ t.3.alone (t.1 ++ rest), placed-next u xs (at + size s) ts t.1 rest t.4 (sym (drop-drop (size s) at xs) ∙ ap (drop (size s)) cut ∙ drop_at t.0 (t.1 ++ rest) (size s) t.3.all))
 
-pub found-next : (xs : List ℕ) → All (λ f. next unpacked (drop f.at xs) ≡ tile (holds f.set)) (found xs)
+pub found-next : (xs : List ℕ) → AllByRecursion (λ f. next unpacked (drop f.at xs) ≡ tile (holds f.set)) (found xs)
 found-next xs = let t = scan-tiles unpacked xs in placed-next unpacked xs 0 (scan unpacked xs).tiles t.0 t.1 t.3 t.2
 
 pub next-parse : (u : Unpack) (xs : List ℕ) (t : Tile) → next u xs ≡ tile t → parse xs ≡ tile t

@@ -1,6 +1,6 @@
 -- Tests of each number below a bound, the lowest that passes, and tests of some element.
 use Rattle.std.proofs.Common.{◌≡◌, ℕ, zero, suc, ◌<◌, Bool, true, false, cond, ◌⊎◌, List, [], ◌∷◌, ◌++◌, length, Some, None, sym, refl, ap, ◌∙◌, inl, inr, ⊎_elim, arith}
-use Rattle.std.specs.List.{ContainsAt as Has, AllByRecursion as All}
+use Rattle.std.specs.List.{ContainsAt as Has, AllByRecursion}
 use Rattle.std.proofs.ByRecursion.{All-append, all-has}
 use Rattle.std.proofs.lemmas.Bool.{and_from, and_left, and_right, and_parts, or_from, or_parts, cond-true, cond-false, cases_lt, cases_Bool, or_cases}
 use Rattle.sets.specs.Readings.{every, either, lowest, any}
@@ -57,11 +57,11 @@ pub true-false : true ≡ false → ⊥
 true-false e = let z : ◌≡◌ {A = ℕ} 0 1 = cc in omega arith
 
 module _ {A : Type 0} (p : A → Bool) where
-  pub any_none : (xs : List A) → All (λ x. p x ≡ false) xs → any p xs ≡ false
+  pub any_none : (xs : List A) → AllByRecursion (λ x. p x ≡ false) xs → any p xs ≡ false
   any_none [] h = refl
   any_none (x ∷ xs) h = or_from (p x) (any p xs) h.0 (any_none xs h.1)
 
-  pub any-not : (xs : List A) → any p xs ≡ false → All (λ x. p x ≡ false) xs
+  pub any-not : (xs : List A) → any p xs ≡ false → AllByRecursion (λ x. p x ≡ false) xs
   any-not [] e = tt
   any-not (y ∷ xs) e = let b = or_parts (p y) (any p xs) e in (b.0, any-not xs b.1)
 

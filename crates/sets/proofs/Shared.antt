@@ -1,6 +1,6 @@
 -- Runs that memories share, and bytes.
 use Rattle.std.proofs.Common.{◌≡◌, ℕ, zero, suc, ◌+◌, ◌-◌, ◌/◌, ◌%◌, ◌<◌, ◌≤◌, Bool, true, false, cond, ltb, List, [], ◌∷◌, ◌++◌, length, take, drop, replicate, sym, refl, ap, ◌∙◌, subst, append_assoc, arith}
-use Rattle.std.specs.List.{AllByRecursion as All}
+use Rattle.std.specs.List.{AllByRecursion}
 use Rattle.std.specs.Int.Digits.{AllBelowBase}
 use Rattle.std.proofs.lemmas.List.{take_at, drop_at}
 use Rattle.std.proofs.ByRecursion.{All-append}
@@ -16,7 +16,7 @@ use Rattle.sets.proofs.Written.{nibble-fits, flag}
 use Rattle.sets.proofs.Tilings.{scan-tiles, tiled-span, tiled_split, placed-append}
 use Rattle.sets.proofs.Laying.{part_at, same-tiles}
 
-all-front : {X : Type 0} (P : X → Type 0) (xs ys : List X) → All P (xs ++ ys) → All P xs
+all-front : {X : Type 0} (P : X → Type 0) (xs ys : List X) → AllByRecursion P (xs ++ ys) → AllByRecursion P xs
 all-front P [] ys a = tt
 all-front P (x ∷ xs) ys a = (a.0, all-front P xs ys a.1)
 
@@ -26,14 +26,14 @@ span-append [] rs = omega arith
 span-append (t ∷ ts) rs = omega (arith, span-append ts rs)
 
 -- the run of a memory between two addresses that no set lies across
-cut : (u : Unpack) (xs : List ℕ) (ts : List Tile) (a n : ℕ) → scan u xs ≡ clean ts → a + n ≤ span ts → All (Apart a) (placed 0 ts) → All (Apart (a + n)) (placed 0 ts)
+cut : (u : Unpack) (xs : List ℕ) (ts : List Tile) (a n : ℕ) → scan u xs ≡ clean ts → a + n ≤ span ts → AllByRecursion (Apart a) (placed 0 ts) → AllByRecursion (Apart (a + n)) (placed 0 ts)
     → (run : List Tile) × Between ts a n run × Tiled u run (take n (drop a xs))
 cut u xs ts a n e fits low high =
     let p = part_at ts (a + n) fits high in
     let front : List Tile = p.0 in
     let after : List Tile = p.1 in
-    let low' : All (Apart a) (placed 0 front) =
-    all-front (Apart a) (placed 0 front) (placed (0 + span front) after) (subst (All (Apart a)) (ap (placed 0) p.2 ∙ placed-append 0 front after) low) in
+    let low' : AllByRecursion (Apart a) (placed 0 front) =
+    all-front (Apart a) (placed 0 front) (placed (0 + span front) after) (subst (AllByRecursion (Apart a)) (ap (placed 0) p.2 ∙ placed-append 0 front after) low) in
     let q = part_at front a (omega (arith, p.3)) low' in
     let before : List Tile = q.0 in
     let run : List Tile = q.1 in

@@ -1,7 +1,7 @@
 -- Stray bytes are found in one sweep over the sets, upwards.
 use Rattle.std.proofs.Common.{◌≡◌, ℕ, ◌+◌, ◌/◌, ◌<◌, ◌≤◌, Bool, true, false, not, ◌&&◌, ltb, leb, List, [], ◌∷◌, length, get_or, take, drop, Some, None, sym, refl, ap, ◌∙◌, subst, ⊎_elim, arith, length-append}
 use Rattle.std.specs.Option.{option_map}
-use Rattle.std.specs.List.{ContainsAt as Has, AllByRecursion as All}
+use Rattle.std.specs.List.{ContainsAt as Has, AllByRecursion}
 use Rattle.std.proofs.lemmas.List.{take-append-drop, drop_more, drop_all}
 use Rattle.std.proofs.ByRecursion.{All-weaker, All-more, has_get_or}
 use Rattle.std.proofs.lemmas.Bool.{le-leb, lt-leb, lt-ltb, le-ltb, and_from, and_left, and_right, cases_lt, cases_Bool}
@@ -22,7 +22,7 @@ pub ascending_from : (a b : ℕ) (fs : List Found) → a ≤ b → Ascending b f
 ascending_from a b [] h g = tt
 ascending_from a b (f ∷ fs) h g = (omega (arith, g.0), g.1)
 
-all_from : (a : ℕ) (fs : List Found) → Ascending a fs → All (λ f. a ≤ f.at) fs
+all_from : (a : ℕ) (fs : List Found) → Ascending a fs → AllByRecursion (λ f. a ≤ f.at) fs
 all_from a [] h = tt
 all_from a (f ∷ fs) h = (h.0, all_from a fs (ascending_from a (behind f) fs (omega (arith, h.0)) h.1))
 
@@ -33,7 +33,7 @@ placed_ascending at (filler ∷ ts) = ascending_from at (at + 1) (placed (at + 1
 placed_ascending at (holds s ∷ ts) = (omega arith, placed_ascending (at + size s) ts)
 
 -- and end inside
-pub placed-inside : (at : ℕ) (ts : List Tile) (n : ℕ) → at + span ts ≤ n → All (λ f. behind f ≤ n) (placed at ts)
+pub placed-inside : (at : ℕ) (ts : List Tile) (n : ℕ) → at + span ts ≤ n → AllByRecursion (λ f. behind f ≤ n) (placed at ts)
 unfolding placed span
 placed-inside at [] n h = tt
 placed-inside at (filler ∷ ts) n h = placed-inside (at + 1) ts n (omega arith)
@@ -42,7 +42,7 @@ placed-inside at (holds s ∷ ts) n h = (omega arith, placed-inside (at + size s
 pub found_ascending : (xs : List ℕ) → Ascending 0 (found xs)
 found_ascending xs = placed_ascending 0 (scan unpacked xs).tiles
 
-pub found_inside : (xs : List ℕ) → All (λ f. behind f ≤ length xs) (found xs)
+pub found_inside : (xs : List ℕ) → AllByRecursion (λ f. behind f ≤ length xs) (found xs)
 found_inside xs =
     let t = scan-tiles unpacked xs in
     placed-inside 0 (scan unpacked xs).tiles (length xs) (omega (arith, ap length t.2, length-append t.0 t.1, tiled-span unpacked (scan unpacked xs).tiles t.0 t.3))
@@ -65,7 +65,7 @@ and-true false = refl
 -- The sets before j were swept: those that are sealed end by `from`, the others stand from there on, and no byte below it is stray.
 pub record Swept (m : Memory) (fs : List Found) (j from : ℕ) : Type 0 where
   pub ahead : Ascending from (drop j fs)
-  pub shut : All (λ f. sealed m f ≡ true → behind f ≤ from) (take j fs)
+  pub shut : AllByRecursion (λ f. sealed m f ≡ true → behind f ≤ from) (take j fs)
   pub clear : (a : ℕ) → a < from → stray m fs a ≡ false
 
 pub swept_none : (m : Memory) (fs : List Found) → Ascending 0 fs → Swept m fs 0 0

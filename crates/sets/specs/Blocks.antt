@@ -1,6 +1,6 @@
 -- Blocks of memory, locked or open.
 use Rattle.std.specs.Prelude.{◌≡◌, ℕ, ◌+◌, ◌*◌, ◌<◌, Bool, false, List, ◌≢◌, slice_index_or}
-use Rattle.std.specs.List.{AllByRecursion as All}
+use Rattle.std.specs.List.{AllByRecursion}
 use Rattle.sets.specs.Sets.{size}
 use Rattle.sets.specs.Scans.{Found}
 use Rattle.sets.specs.Layouts.{Apart}
@@ -16,5 +16,5 @@ Unmixed b locks f = (j k : ℕ) → Touches b j f → Touches b k f → slice_in
 -- then no set lies across the border of a locked and an open block, nor across either end of memory
 abbrev pub Borders : Type 0
 Borders =
-    (b : ℕ) (locks : List Bool) (fs : List Found) → All (Unmixed b locks) fs
-    → ((k : ℕ) → (slice_index_or locks k false ≢ slice_index_or locks (k + 1) false) → All (Apart ((k + 1) * b)) fs) × All (Apart 0) fs
+    (b : ℕ) (locks : List Bool) (fs : List Found) → AllByRecursion (Unmixed b locks) fs
+    → ((k : ℕ) → (slice_index_or locks k false ≢ slice_index_or locks (k + 1) false) → AllByRecursion (Apart ((k + 1) * b)) fs) × AllByRecursion (Apart 0) fs

@@ -1,6 +1,6 @@
 -- Worked examples, as statements.
 use Rattle.std.specs.Prelude.{◌≡◌, ℕ, List, [], ◌∷◌, map}
-use Rattle.std.specs.List.{AllByRecursion as All}
+use Rattle.std.specs.List.{AllByRecursion}
 use Rattle.sets.specs.Sets.{bare, led, Set, filler, holds}
 use Rattle.sets.specs.Parsing.{plain, Step, end, tile, wrong, got, identifier, size_of_object, parse}
 use Rattle.sets.specs.Writing.{shortest, nibble, name_bytes, length_bytes}
@@ -28,7 +28,7 @@ spellings =
     ∷ []
 
 abbrev pub SpellingsRight : Type 0
-SpellingsRight = All Right spellings
+SpellingsRight = AllByRecursion Right spellings
 
 -- bytes and what stands at their front
 pub record Example : Type 0 where

@@ -1,6 +1,6 @@
 -- Tiles laid out anew, and why none takes less.
 use Rattle.std.specs.Prelude.{◌≡◌, ℕ, ◌+◌, ◌≤◌, ◌⊎◌, List, [], ◌∷◌, ◌++◌, length, take, drop, Ok}
-use Rattle.std.specs.List.{AllByRecursion as All}
+use Rattle.std.specs.List.{AllByRecursion}
 use Rattle.sets.specs.Sets.{content, Tile, filler, holds, size}
 use Rattle.sets.specs.Writing.{smallest, encode}
 use Rattle.sets.specs.Scans.{Unpack, clean, scan, Found, placed}
@@ -22,19 +22,19 @@ Layable u filler = Unit {0}
 Layable u (holds s) = Writable s × ((object : List ℕ) × (u s.code s.object ≡ Ok object))
 
 abbrev pub LaidTiles : Type 0
-LaidTiles = (u : Unpack) (ts : List Tile) → All (Layable u) ts → Tiled u ts (laid ts) × (length (laid ts) ≡ span ts)
+LaidTiles = (u : Unpack) (ts : List Tile) → AllByRecursion (Layable u) ts → Tiled u ts (laid ts) × (length (laid ts) ≡ span ts)
 
 -- a gap between tiles, and one that runs to the end
 abbrev pub GapLaid : Type 0
 GapLaid =
     (u : Unpack) (xs : List ℕ) (before old after now : List Tile)
-    → scan u xs ≡ clean (before ++ (old ++ after)) → All (Layable u) now → span now ≡ span old
+    → scan u xs ≡ clean (before ++ (old ++ after)) → AllByRecursion (Layable u) now → span now ≡ span old
     → scan u (take (span before) xs ++ (laid now ++ drop (span before + span old) xs)) ≡ clean (before ++ (now ++ after))
 
 abbrev pub LastLaid : Type 0
 LastLaid =
     (u : Unpack) (xs rest : List ℕ) (before old now : List Tile)
-    → scan u xs ≡ clean (before ++ old) → All (Layable u) now → Ended rest
+    → scan u xs ≡ clean (before ++ old) → AllByRecursion (Layable u) now → Ended rest
     → scan u (take (span before) xs ++ (laid now ++ rest)) ≡ clean (before ++ now)
 
 -- the same bytes are the same tiles
@@ -46,7 +46,7 @@ abbrev pub Apart : ℕ → Found → Type 0
 Apart a f = (f.at + size f.set ≤ a) ⊎ (a ≤ f.at)
 
 abbrev pub PartAt : Type 0
-PartAt = (ts : List Tile) (a : ℕ) → a ≤ span ts → All (Apart a) (placed 0 ts) → (before : List Tile) × (after : List Tile) × (ts ≡ before ++ after) × (span before ≡ a)
+PartAt = (ts : List Tile) (a : ℕ) → a ≤ span ts → AllByRecursion (Apart a) (placed 0 ts) → (before : List Tile) × (after : List Tile) × (ts ≡ before ++ after) × (span before ≡ a)
 
 -- tiles take at least the smallest forms of their sets
 unfoldable pub least_span : List Tile → ℕ

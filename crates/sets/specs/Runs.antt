@@ -1,6 +1,6 @@
 -- Bytes that two memories share, and bytes that are bytes.
 use Rattle.std.specs.Prelude.{◌≡◌, ℕ, ◌+◌, ◌≤◌, List, ◌++◌, take, drop}
-use Rattle.std.specs.List.{AllByRecursion as All}
+use Rattle.std.specs.List.{AllByRecursion}
 use Rattle.std.specs.Int.Digits.{AllBelowBase}
 use Rattle.sets.specs.Sets.{content, Set, Tile}
 use Rattle.sets.specs.Writing.{encode}
@@ -22,7 +22,7 @@ abbrev pub RunAlike : Type 0
 RunAlike =
     (u : Unpack) (xs ys : List ℕ) (ts rs : List Tile) (a n : ℕ)
     → scan u xs ≡ clean ts → scan u ys ≡ clean rs → a + n ≤ span ts → a + n ≤ span rs
-    → All (Apart a) (placed 0 ts) → All (Apart (a + n)) (placed 0 ts) → All (Apart a) (placed 0 rs) → All (Apart (a + n)) (placed 0 rs)
+    → AllByRecursion (Apart a) (placed 0 ts) → AllByRecursion (Apart (a + n)) (placed 0 ts) → AllByRecursion (Apart a) (placed 0 rs) → AllByRecursion (Apart (a + n)) (placed 0 rs)
     → take n (drop a xs) ≡ take n (drop a ys)
     → (run : List Tile) × Between ts a n run × Between rs a n run
 

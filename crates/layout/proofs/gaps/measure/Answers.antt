@@ -1,5 +1,5 @@
 use Rattle.std.proofs.Common.{◌+◌, map, get_or, refl, ap, ◌∙◌, subst, arith}
-use Rattle.std.specs.List.{AllByRecursion as All}
+use Rattle.std.specs.List.{AllByRecursion}
 use Rattle.layout.specs.Plans.{Fit, total}
 use Rattle.layout.specs.Lays.{wanted}
 use Rattle.layout.proofs.Totals.{blank, least-most, total-take, fit-more, sum_more, unfit_here, all_items, no_size}
@@ -22,7 +22,7 @@ loop-i-preserved c =
 pub returns : goal.returns
 returns c =
     let all = all_items c.args.items.now c.loop-i.i (omega arith) in
-    (subst (All Fit) all c.loop-i.invariant.0, c.loop-i.invariant.1 ∙ ap total all, c.loop-i.invariant.2)
+    (subst (AllByRecursion Fit) all c.loop-i.invariant.0, c.loop-i.invariant.1 ∙ ap total all, c.loop-i.invariant.2)
 
 pub returns-in-Err : goal.returns-in-Err
 returns-in-Err c = unfit_here c.args.items.now c.loop-i.i _ c.loop-i-test.true c.loop-i.invariant.0 (no_size _ c.in-Err.field-0 c.in-Err.ensures)
