@@ -1,8 +1,8 @@
 -- From the check of an image to the rows of the tag that was read into it.
-use Rattle.std.proofs.Common.{◌≡◌, ℕ, ◌-◌, ◌*◌, ◌/◌, ◌<◌, ◌≤◌, Bool, true, false, cond, eqb, ltb, List, [], ◌∷◌, ◌++◌, map, length, take, drop, Some, None, Ok, Err, Option, Result, sym, refl, ap, ◌∙◌, arith}
+use Rattle.std.proofs.Common.{◌≡◌, ℕ, ◌-◌, ◌*◌, ◌/◌, ◌≤◌, false, cond, eqb, List, [], ◌∷◌, map, length, take, drop, Some, None, Ok, Err, Option, Result, sym, refl, ap, ◌∙◌, arith}
 use Rattle.std.proofs.lemmas.List.{take_at}
 use Rattle.std.proofs.lemmas.Bool.{ne_eqb, le-ltb, cond-false}
-use Rattle.tags.specs.Tags.{Tag, Shaped, bytes, in_limits}
+use Rattle.tags.specs.Tags.{Tag, Shaped, bytes}
 use Rattle.tags.specs.Dumps.{nonzero}
 use Rattle.tags.proofs.Limits.{limits-parts}
 use Rattle.drivers.proofs.Fronts.{length_front, front-all}

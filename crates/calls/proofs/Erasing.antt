@@ -1,15 +1,14 @@
 -- Blocks zeroed one after another, and the free count of what is left.
-use Rattle.std.proofs.Common.{◌≡◌, ℕ, zero, suc, ◌+◌, ◌-◌, ◌*◌, ◌<◌, ◌≤◌, Bool, true, false, List, [], ◌∷◌, ◌++◌, length, get_or, take, drop, set, replicate, is_ok, Ok, Err, Result, sym, refl, ap, ◌∙◌, append_assoc, suc-mul, arith}
+use Rattle.std.proofs.Common.{◌≡◌, ℕ, zero, suc, ◌+◌, ◌-◌, ◌*◌, ◌<◌, ◌≤◌, false, List, [], ◌∷◌, ◌++◌, length, get_or, take, drop, set, replicate, Ok, Err, Result, sym, refl, ap, ◌∙◌, append_assoc, suc-mul, arith}
 use Rattle.std.specs.List.{flat_map}
 use Rattle.std.proofs.lemmas.List.{drop_more, drop_all, set_at, replicate_more, replicate-append-replicate, length-replicate, take-replicate, append-nil}
-use Rattle.tags.specs.Tags.{Tag, Shaped, bytes}
+use Rattle.tags.specs.Tags.{Tag, Shaped}
 use Rattle.drivers.specs.declared.faults.DriverFault.{DriverFault}
 use Rattle.drivers.specs.Questions.{shut}
 use Rattle.drivers.specs.Changes.{with_block, write_answer, write_tag}
 use Rattle.drivers.proofs.Granted.{write_granted, write_leaves}
 use Rattle.sets.specs.Parsing.{parse}
 use Rattle.sets.specs.Scans.{scan_by, next, placed, free}
-use Rattle.sets.specs.Objects.{unpacked}
 use Rattle.sets.specs.Readings.{found}
 use Rattle.calls.specs.Starts.{free_count}
 use Rattle.calls.specs.Openings.{zeros, erased, formatted}

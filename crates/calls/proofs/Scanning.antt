@@ -1,5 +1,5 @@
 -- From the scan of an image to the rows of a read of the tag that was read into it.
-use Rattle.std.proofs.Common.{◌≡◌, ℕ, Bool, false, cond, List, [], ◌∷◌, length, Some, None, Ok, Err, Option, Result, sym, refl, ap, ◌∙◌, arith}
+use Rattle.std.proofs.Common.{◌≡◌, ℕ, false, List, ◌∷◌, length, Some, None, Ok, Err, Option, refl, ap, ◌∙◌, arith}
 use Rattle.std.proofs.lemmas.Bool.{cond-false}
 use Rattle.tags.specs.Tags.{Tag, bytes}
 use Rattle.sets.specs.Parsing.{plain}

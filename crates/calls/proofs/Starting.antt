@@ -1,5 +1,5 @@
 -- From the parts of a call's beginning to its rows, and back.
-use Rattle.std.proofs.Common.{◌≡◌, ℕ, ◌*◌, ◌≤◌, Bool, true, false, ltb, List, [], ◌∷◌, ◌++◌, length, Some, None, Ok, Err, Option, Result, sym, refl, ap, ◌∙◌, arith}
+use Rattle.std.proofs.Common.{◌≡◌, ℕ, ◌*◌, ◌≤◌, true, ltb, List, [], ◌∷◌, length, Some, None, Ok, Err, Option, Result, sym, ap, ◌∙◌, arith}
 use Rattle.std.proofs.lemmas.Bool.{not-false, ltb-false, le-ltb, cond-false}
 use Rattle.tags.specs.Tags.{Tag, in_limits}
 use Rattle.tags.specs.declared.shapes.Shape.{Shape}
@@ -8,7 +8,7 @@ use Rattle.drivers.specs.declared.faults.WholeFault.TheVariants.{Room}
 use Rattle.drivers.specs.Wholes.{whole_answer, whole_image}
 use Rattle.sets.specs.Scans.{Refusal}
 use Rattle.states.specs.declared.holding.Noted.{Noted}
-use Rattle.calls.specs.Rows.{Rooms, Row, first, shape_row, row, room_rows, entry_row, start_rows, seen}
+use Rattle.calls.specs.Rows.{Rooms, first, shape_row, row, room_rows, entry_row, start_rows, seen}
 use Rattle.calls.specs.Working.{imaged}
 use Rattle.calls.proofs.Firsts.{first_on, first_stays, none_of, row_fails}
 

@@ -1,5 +1,5 @@
 -- An object unpacked to the front of an output, or too long for it.
-use Rattle.std.proofs.Common.{◌≡◌, ℕ, ◌-◌, ◌<◌, ◌≤◌, Bool, true, false, ltb, List, [], ◌∷◌, ◌++◌, length, drop, Some, None, Ok, Err, Option, Result, sym, refl, ap, ◌∙◌, ⊎_elim, arith, length-append, length-drop}
+use Rattle.std.proofs.Common.{◌≡◌, ℕ, ◌<◌, ◌≤◌, List, [], ◌∷◌, ◌++◌, length, drop, Some, None, Ok, Err, Option, Result, sym, refl, ap, ◌∙◌, ⊎_elim, arith, length-append, length-drop}
 use Rattle.std.proofs.ByRecursion.{All-get_or}
 use Rattle.std.proofs.lemmas.Bool.{lt-ltb, le-ltb}
 use Rattle.codes.specs.declared.fault.Fault.{Fault}
@@ -7,7 +7,7 @@ use Rattle.codes.specs.Table.{unpacked_code}
 use Rattle.packing.specs.declared.choice.UnpackFault.TheVariants.{Code}
 use Rattle.packing.specs.Packing.{Stored, Lacks}
 use Rattle.packing.specs.Packing as packing
-use Rattle.sets.specs.Sets.{Set, holds}
+use Rattle.sets.specs.Sets.{holds}
 use Rattle.sets.specs.Parsing.{tile, plain}
 use Rattle.sets.specs.Scans.{Refusal, Found, next}
 use Rattle.sets.specs.Objects.{flawed, unpacked}
@@ -21,7 +21,6 @@ use Rattle.scan.specs.Tables.{records}
 use Rattle.reading.proofs.Sweeps.{count-is, record_at}
 use Rattle.calls.specs.declared.finds.Hit.{Hit}
 use Rattle.calls.specs.Rows.{row, first}
-use Rattle.calls.specs.Working.{unless}
 use Rattle.calls.specs.Finds.{identifier_row, set_in, record_in, hit_in}
 use Rattle.calls.specs.Reads.{object_of, object_shown, object_at, object_named, absent_row, output_row, take_rows, put_out}
 use Rattle.calls.proofs.Firsts.{first_on, first_stays}

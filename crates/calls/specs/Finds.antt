@@ -1,5 +1,5 @@
 -- Sets by their identifiers.
-use Rattle.std.specs.Prelude.{ℕ, ◌+◌, Bool, true, false, not, ◌&&◌, List, [], length, drop, is_some, Some, None, Option, nat_le, slice_index_or}
+use Rattle.std.specs.Prelude.{ℕ, ◌+◌, Bool, true, not, ◌&&◌, List, [], length, drop, is_some, Some, None, Option, nat_le, slice_index_or}
 use Rattle.std.specs.Str.{bytes_eq}
 use Rattle.sets.specs.Sets.{bare}
 use Rattle.sets.specs.Parsing.{arcs}

@@ -1,5 +1,5 @@
 -- What opening and formatting answer and leave.
-use Rattle.std.specs.Prelude.{◌≡◌, ℕ, Bool, List, [], ◌∷◌, replicate, Some, None, Option}
+use Rattle.std.specs.Prelude.{◌≡◌, ℕ, List, [], ◌∷◌, replicate, Some, None, Option}
 use Rattle.tags.specs.Tags.{Tag}
 use Rattle.drivers.specs.Questions.{shut}
 use Rattle.sets.specs.Parsing.{plain}

@@ -1,4 +1,6 @@
 // The calls on a tag behind any driver.
+#![tactic(auto)]
+
 mod admission;
 mod finds;
 mod formats;

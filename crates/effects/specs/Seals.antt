@@ -1,5 +1,5 @@
 -- A seal: the blocks of a set that has them for itself are locked.
-use Rattle.std.specs.Prelude.{◌≡◌, ℕ, zero, suc, ◌+◌, ◌*◌, ◌<◌, ◌≤◌, Bool, true, false, List, length, set, Ok, ◌≢◌, slice_index_or, slice_set}
+use Rattle.std.specs.Prelude.{◌≡◌, ℕ, zero, suc, ◌+◌, ◌*◌, ◌<◌, ◌≤◌, Bool, true, false, List, length, Ok, ◌≢◌, slice_index_or, slice_set}
 use Rattle.std.specs.List.{ContainsAt as Has}
 use Rattle.sets.specs.Sets.{size}
 use Rattle.sets.specs.Scans.{Found}

@@ -1,1 +1,3 @@
+#![tactic(auto)]
+
 // What each call makes of a memory.

@@ -1,4 +1,6 @@
 // What the holder of a tag has between calls, and why a call is declined.
+#![tactic(auto)]
+
 mod faults;
 mod holding;
 

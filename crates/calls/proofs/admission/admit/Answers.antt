@@ -1,6 +1,5 @@
-use Rattle.std.proofs.Common.{◌≡◌, Some, None, sym, refl, ap, ◌∙◌, arith}
+use Rattle.std.proofs.Common.{◌≡◌, None, refl}
 use Rattle.std.proofs.lemmas.Result.{err_from_is_err_and}
-use Rattle.states.specs.Faults.{refusal_of}
 use Rattle.calls.specs.Rows.{rooms, start_rows, seen}
 use Rattle.calls.proofs.Firsts.{declined}
 use Rattle.calls.proofs.Starting.{no_room, starts, seen-is}

@@ -1,4 +1,3 @@
-use Rattle.std.proofs.Common.{arith}
 use Rattle.calls.proofs.Naming.{part-past, part-rest, part-inside}
 use Rattle.calls.proofs.finds.part.Goals as goal
 

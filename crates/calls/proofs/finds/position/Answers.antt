@@ -1,4 +1,4 @@
-use Rattle.std.proofs.Common.{◌≡◌, ℕ, Bool, length, sym, arith, below_more}
+use Rattle.std.proofs.Common.{length, sym, arith, below_more}
 use Rattle.std.specs.Str.{bytes_eq}
 use Rattle.sets.proofs.Searching.{lowest-none, lowest-some}
 use Rattle.reading.specs.Inner.{content_in}

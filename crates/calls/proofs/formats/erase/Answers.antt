@@ -1,4 +1,4 @@
-use Rattle.std.proofs.Common.{◌≡◌, ◌<◌, sym, ap, ◌∙◌, arith}
+use Rattle.std.proofs.Common.{◌<◌, ◌∙◌, arith}
 use Rattle.calls.proofs.Erasing.{erases, erases_more, erased-all, zeros-are}
 use Rattle.calls.proofs.formats.erase.Goals as goal
 

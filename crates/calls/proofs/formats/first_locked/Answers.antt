@@ -1,4 +1,4 @@
-use Rattle.std.proofs.Common.{◌≡◌, ◌<◌, true, false, sym, ap, ◌∙◌, arith, below_more}
+use Rattle.std.proofs.Common.{◌≡◌, ◌<◌, false, sym, ap, ◌∙◌, arith, below_more}
 use Rattle.tags.specs.Tags.{Tag}
 use Rattle.drivers.specs.Questions.{shut}
 use Rattle.sets.proofs.Searching.{lowest-none, lowest-some}

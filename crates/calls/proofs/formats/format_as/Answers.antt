@@ -1,9 +1,8 @@
-use Rattle.std.proofs.Common.{◌≡◌, ◌*◌, false, sym, refl, ap, ◌∙◌, arith}
+use Rattle.std.proofs.Common.{◌≡◌, ◌*◌, sym, ap, ◌∙◌, arith}
 use Rattle.tags.specs.Tags.{Tag}
 use Rattle.tags.proofs.Limits.{limits-parts}
 use Rattle.drivers.specs.Questions.{shut}
 use Rattle.drivers.specs.Changes.{with_system}
-use Rattle.states.specs.declared.holding.Noted.{Noted}
 use Rattle.states.specs.Holding.{opened}
 use Rattle.calls.specs.Rows.{first}
 use Rattle.calls.specs.Openings.{format_rows, erased, formatted}

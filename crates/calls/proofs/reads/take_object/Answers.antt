@@ -1,9 +1,8 @@
-use Rattle.std.proofs.Common.{◌≡◌, length, drop, sym, refl, ap, ◌∙◌}
+use Rattle.std.proofs.Common.{length, drop, sym, ap, ◌∙◌}
 use Rattle.std.proofs.lemmas.Result.{err_from_is_err_and}
 use Rattle.sets.specs.Scans.{next}
 use Rattle.sets.specs.Objects.{unpacked}
 use Rattle.sets.specs.Readings.{found}
-use Rattle.calls.specs.Rows.{first}
 use Rattle.calls.specs.Finds.{record_in}
 use Rattle.calls.specs.Reads.{shows_set, object_shown, object_named, occurs_again, take_rows, put_out, Takes}
 use Rattle.calls.proofs.Firsts.{declined}

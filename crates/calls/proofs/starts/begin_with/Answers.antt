@@ -1,4 +1,4 @@
-use Rattle.std.proofs.Common.{◌≡◌, ◌*◌, ◌≤◌, map, length, take, sym, refl, ap, ◌∙◌, rules}
+use Rattle.std.proofs.Common.{◌*◌, ◌≤◌, map, length, take, sym, refl, ap, ◌∙◌, rules}
 use Rattle.std.proofs.lemmas.Result.{err_from_is_err_and}
 use Rattle.tags.specs.Tags.{Tag}
 use Rattle.tags.specs.Dumps.{nonzero}

@@ -1,4 +1,4 @@
-use Rattle.std.proofs.Common.{◌≡◌, ◌<◌, map, length, take, sym, ap, ◌∙◌, arith}
+use Rattle.std.proofs.Common.{map, take, ap, ◌∙◌, arith}
 use Rattle.std.proofs.lemmas.List.{take_all}
 use Rattle.tags.specs.Dumps.{nonzero}
 use Rattle.calls.proofs.Locking.{lock_more, lock_told, lock_tells}
