@@ -208,6 +208,5 @@ fn compare(rt: &HostRuntime) -> anyhow::Result<()> {
 }
 
 fn main(rt: HostRuntime) -> anyhow::Result<()> {
-    let r = compare(&rt);
-    r
+    compare(&rt)
 }

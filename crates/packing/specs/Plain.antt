@@ -1,14 +1,22 @@
 -- Groups of eight bits are the bytes themselves.
-use Rattle.std.specs.Prelude.{◌≡◌, ℕ, ◌+◌, ◌*◌, ◌/◌, ◌%◌, ◌<◌, true, ◌&&◌, List, [], ◌++◌, length, take, Ok, Err, Result, nat_le, refl}
+use Rattle.std.specs.Prelude.{◌≡◌, ℕ, ◌+◌, ◌*◌, ◌/◌, ◌%◌, ◌^◌, ◌<◌, ◌≤◌, true, ◌&&◌, List, [], ◌++◌, length, take, Ok, Err, Result, nat_le, refl}
 use Rattle.std.proofs.Common.{sym, ap, subst, ◌∙◌, ⊎_elim, append-nil, arith}
-use Rattle.std.specs.Int.Digits.{AllBelowBase}
+use Rattle.std.specs.Int.Digits.{AllBelowBase, digits_of}
 use Rattle.std.proofs.lemmas.List.{drop_all}
+use Rattle.std.proofs.lemmas.Int.Digits.{all_below_base_digits_of}
 use Rattle.std.proofs.lemmas.Bool.{or_cases, eqb-true, eq-eqb, and_left, lt-leb, cond-false}
 use Rattle.codes.specs.Bits.{bits, val, spread, groups, packed, ends, padding, spare}
 use Rattle.codes.proofs.BitLaws.{groups-spread, length-spread}
 use Rattle.codes.specs.declared.fault.Fault.{Fault}
-use Rattle.codes.specs.Table.{whole, remaining, behind, pad_behind, octets, code, permitted, packing, packed_code, unpacking, unpacked_code}
+use Rattle.codes.specs.Table.{whole, remaining, behind, pad_behind, octets, code, permitted, value, packing, packed_code, unpacking, unpacked_code}
 use Rattle.packing.specs.Coded.{is_plain, closed, unpacked_by}
+
+pub octets_sized : (4 ≤ 8) × (8 ≤ 8) × (0 < 2 ^ 8)
+octets_sized = (omega arith, omega arith, omega arith)
+
+-- the bytes of a number
+pub number_bytes : (x : List ℕ) → AllBelowBase 256 (digits_of 256 (value x))
+number_bytes x = all_below_base_digits_of 256 (value x) (omega arith)
 
 pub packed_bytes : (gs : List ℕ) → AllBelowBase 256 gs → packed 8 0 gs ≡ gs
 unfolding packed

@@ -2,9 +2,7 @@
 ghost use Rattle.std.specs.Prelude.{◌≡◌, ◌<◌, ◌≤◌, true, length, take, slice_index};
 ghost use Rattle.std.specs.Int.Digits.{digits_of, number_from_digits};
 ghost use Rattle.codes.specs.Table.{within, value, decimal, unpacked_integer, packed_code, unpacked_code};
-ghost use Rattle.std.proofs.Common.{arith, rules};
-ghost use Rattle.std.proofs.lemmas.Int.Digits.{all_below_base_digits_of};
-ghost use Rattle.packing.specs.Plain.{packed_bytes, bytes_by};
+ghost use Rattle.packing.specs.Plain.{octets_sized, number_bytes, packed_bytes, bytes_by};
 
 use super::{Code, all_within};
 use codes::Fault;
@@ -101,9 +99,9 @@ impl Code for Integer {
 
     ghost meant = { λ _ gs. unpacked_integer gs };
 
-    ghost sized = { Prim.search rules };
+    ghost sized = { λ _. octets_sized };
 
-    ghost packs = { unfold packed_code in λ c x h u. let small = all_below_base_digits_of 256 (value x) (omega arith) in (small, packed_bytes _ small) };
+    ghost packs = { unfold packed_code in λ c x h u. (number_bytes x, packed_bytes _ (number_bytes x)) };
 
     ghost unpacks = { unfold unpacked_code in λ c bs u. bytes_by unpacked_integer bs u };
 

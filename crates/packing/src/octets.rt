@@ -2,8 +2,7 @@
 ghost use Rattle.std.specs.Prelude.{◌≡◌, true, Ok};
 ghost use Rattle.packing.specs.Coded.{is_plain};
 ghost use Rattle.packing.specs.Widths.{octets_code};
-ghost use Rattle.packing.specs.Plain.{plain, plain_packs, plain_unpacks};
-ghost use Rattle.std.proofs.Common.{rules, arith};
+ghost use Rattle.packing.specs.Plain.{octets_sized, plain, plain_packs, plain_unpacks};
 
 use super::Code;
 use codes::{Fault, Kind};
@@ -38,7 +37,7 @@ impl Code for Octets {
 
     ghost meant = { λ _ gs. Ok gs };
 
-    ghost sized = { first_of (Prim.search rules, Prim.grind (arith, Self.row.coded.inj)) };
+    ghost sized = { λ _. octets_sized };
 
     ghost packs = { λ c x h u. (u, plain_packs c.code x (plain c.code c.ok) u) };
 
