@@ -1,5 +1,5 @@
 -- From the check of an image to the rows of the tag that was read into it.
-use Rattle.std.proofs.Common.{◌≡◌, ℕ, ◌-◌, ◌*◌, ◌/◌, ◌≤◌, false, cond, eqb, List, [], ◌∷◌, map, length, take, drop, Some, None, Ok, Err, Option, Result, sym, refl, ap, ◌∙◌, arith}
+use Rattle.std.proofs.Common.{◌≡◌, ℕ, ◌*◌, ◌/◌, ◌≤◌, false, cond, eqb, List, [], ◌∷◌, map, length, take, drop, Some, None, Ok, Err, Option, Result, sym, refl, ap, ◌∙◌, arith}
 use Rattle.std.proofs.lemmas.List.{take_at}
 use Rattle.std.proofs.lemmas.Bool.{ne_eqb, le-ltb, cond-false}
 use Rattle.tags.specs.Tags.{Tag, Shaped, bytes}
@@ -84,7 +84,7 @@ pub record Prepared (t : Tag) (n : Option Noted) (w : Work) (here : Noted) (imag
   pub read : image ≡ imaged t w.image
   pub zeros : scratch ≡ zeroed w.scratch
   pub room : here.shape.count * here.shape.size ≤ length w.image
-  pub front : take (here.shape.count * here.shape.size - 0) image ≡ bytes t
+  pub front : take (here.shape.count * here.shape.size) image ≡ bytes t
 
 pub prepared : (t : Tag) → Shaped t → (n : Option Noted) (w : Work) (here : Noted) (image scratch : List ℕ) → (first (start_rows t n (rooms_of w)) ≡ None) × (here ≡ seen t)
     → image ≡ unless (first (start_rows t n (rooms_of w))) w.image (imaged t w.image) → scratch ≡ unless (first (start_rows t n (rooms_of w))) w.scratch (zeroed w.scratch) → Prepared t n w here image scratch
@@ -98,15 +98,14 @@ prepared t s n w here image scratch h a b =
       read = read-so;
       zeros = b ∙ unless-none o w.scratch (zeroed w.scratch) h.0;
       room = omega (arith, (started t n (rooms_of w) h.0).image);
-      front = front-is t s w.image image (here.shape.count * here.shape.size - 0) read-so (omega arith);
+      front = front-is t s w.image image (here.shape.count * here.shape.size) read-so (omega arith);
     }
 
 -- the lock bytes and the front of the image make the tag's memory
 pub memory-is : (t : Tag) (n : Option Noted) (w : Work) (here : Noted) (image scratch : List ℕ) → Prepared t n w here image scratch → (locks : List ℕ) → map nonzero (take here.shape.count locks) ≡ t.locks
-    → memory here.shape.size (take (here.shape.count - 0) locks) (take (here.shape.count * here.shape.size - 0) image) ≡ memory_of t
+    → memory here.shape.size (take (here.shape.count) locks) (take (here.shape.count * here.shape.size) image) ≡ memory_of t
 memory-is t n w here image scratch p locks flags =
-    let whole : here.shape.count - 0 ≡ here.shape.count = omega arith in
-    λ i. record { size = (p.told i).shape.size; locks = (ap (λ k. map nonzero (take k locks)) whole ∙ flags) i; bytes = p.front i }
+    λ i. record { size = (p.told i).shape.size; locks = flags i; bytes = p.front i }
 
 -- the first rows come first
 pub begins_no_more : (t : Tag) (n : Option Noted) (w : Rooms) (f : Refusal) → first (start_rows t n w) ≡ Some f → first (begin_rows t n w) ≡ Some f

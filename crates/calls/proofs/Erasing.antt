@@ -68,5 +68,5 @@ all-free t byte =
     let none : n ≡ length (zeros n) - 0 = omega (arith, length-replicate {A = ℕ} n 0) in
     none ∙ ap (λ fs. free (length (zeros n)) fs) (sym (found-zeros n)) ∙ ap (λ xs. free (length xs) (found xs)) (sym (joined_zeros t.count t.size))
 
-pub zeros-are : (size n : ℕ) → size ≤ 32 → size ≡ n → take (size - 0) (zeros 32) ≡ zeros n
-zeros-are size n h e = let is : size - 0 ≡ n = omega arith in take-replicate (size - 0) 32 0 (omega arith) ∙ ap zeros is
+pub zeros-are : (size n : ℕ) → size ≤ 32 → size ≡ n → take size (zeros 32) ≡ zeros n
+zeros-are size n h e = take-replicate size 32 0 (omega arith) ∙ ap zeros e

@@ -1,12 +1,12 @@
 -- The rows of a format, by what it finds.
 use Rattle.std.proofs.Common.{◌≡◌, ℕ, ◌<◌, Bool, true, false, not, [], ◌∷◌, Some, None, Option, sym, refl, ◌∙◌, ⊎_elim, arith}
-use Rattle.tags.specs.Tags.{Tag, in_limits}
+use Rattle.tags.specs.Tags.{Tag, in_limits, known_format}
 use Rattle.tags.specs.declared.shapes.Shape.{Shape}
 use Rattle.drivers.specs.Questions.{shut}
 use Rattle.sets.specs.Parsing.{plain}
 use Rattle.sets.specs.Scans.{Refusal}
 use Rattle.sets.proofs.Searching.{lowest_cases}
-use Rattle.calls.specs.Rows.{row, first, known_format, shape_row, system_row}
+use Rattle.calls.specs.Rows.{row, first, shape_row, system_row}
 use Rattle.calls.specs.Openings.{locked_row, lowest_locked, format_rows}
 
 abbrev told : ℕ → ℕ → Refusal

@@ -1,5 +1,6 @@
 -- Locks read one after another.
-use Rattle.std.proofs.Common.{◌≡◌, ℕ, ◌+◌, ◌<◌, Bool, false, List, [], ◌∷◌, ◌++◌, map, length, get_or, take, set, Ok, Err, Result, sym, ap, ◌∙◌, arith}
+use Rattle.std.proofs.Common.{◌≡◌, ℕ, ◌+◌, ◌<◌, Bool, true, false, List, [], ◌∷◌, ◌++◌, map, length, get_or, take, set, Ok, Err, Result, sym, refl, ap, ◌∙◌, arith}
+use Rattle.std.specs.Int.{from_bool}
 use Rattle.std.proofs.lemmas.List.{take_more, take_more_set, map-append}
 use Rattle.tags.specs.Tags.{Tag}
 use Rattle.tags.specs.Dumps.{nonzero}
@@ -10,6 +11,10 @@ use Rattle.drivers.proofs.Granted.{locked-told}
 pub lock_more : (xs : List ℕ) (ls : List Bool) (k b : ℕ) → k < length xs → k < length ls → map nonzero (take k xs) ≡ take k ls → nonzero b ≡ get_or ls k false → map nonzero (take (k + 1) (set xs k b)) ≡ take (k + 1) ls
 lock_more xs ls k b h g e f =
     ap (map nonzero) (take_more_set xs k b h) ∙ map-append nonzero (take k xs) (b ∷ []) ∙ (λ i. e i ++ f i ∷ []) ∙ sym (take_more ls k false g)
+
+pub nonzero-bool : (b : Bool) → nonzero (from_bool b) ≡ b
+nonzero-bool true = refl
+nonzero-bool false = refl
 
 -- a block that there is tells its lock
 module _ (t : Tag) (k : ℕ) (h : k < t.count) where

@@ -1,57 +1,27 @@
 -- Identifiers by the records of their sets.
-use Rattle.std.proofs.Common.{◌≡◌, ℕ, zero, suc, ◌+◌, ◌-◌, ◌<◌, ◌≤◌, Bool, cond, eqb, List, [], ◌∷◌, length, take, drop, is_some, Some, None, Decides, sym, refl, ap, ◌∙◌, arith, rules}
-use Rattle.std.specs.List.{AllByRecursion}
+use Rattle.std.proofs.Common.{◌≡◌, ℕ, zero, suc, ◌+◌, ◌<◌, Bool, cond, ltb, List, [], ◌∷◌, length, drop, is_some, Some, None, sym, refl, ap, ◌∙◌, ⊎_elim, arith}
+use Rattle.std.specs.List.{AllByRecursion, position, position_or_len}
 use Rattle.std.specs.Str.{bytes_eq}
-use Rattle.std.proofs.lemmas.Slice.Eq.{bytes_eq-Decides}
 use Rattle.std.proofs.ByRecursion.{All-get_or, All-weaker}
-use Rattle.std.proofs.lemmas.List.{drop_all, take_all, take_rest, drop-map}
-use Rattle.std.proofs.lemmas.Bool.{eq-eqb, ne_eqb, cond-true, cond-false}
-use Rattle.sets.specs.Sets.{Name, bare, byte, led, content, number, part, name_at, holds}
-use Rattle.sets.specs.Parsing.{tile, parse}
+use Rattle.std.proofs.lemmas.List.{drop-map}
+use Rattle.std.proofs.lemmas.Bool.{lt-ltb, le-ltb, cond-true, cond-false, cases_lt}
+use Rattle.std.proofs.lemmas.List.Sums.{passes_at_first, fails_before_first}
+use Rattle.sets.proofs.Searching.{lowest-none, lowest-some}
+use Rattle.sets.specs.Sets.{holds}
+use Rattle.sets.specs.Parsing.{tile}
 use Rattle.sets.specs.Scans.{next, Found}
 use Rattle.sets.specs.Objects.{unpacked}
 use Rattle.sets.specs.Readings.{either, lowest, found, identified}
-use Rattle.sets.specs.Laws.{Fitting}
-use Rattle.sets.proofs.Fronts.{front}
-use Rattle.sets.proofs.Spelled.{parts_stand}
-use Rattle.sets.proofs.Repeats.{found-next, next-parse}
+use Rattle.sets.proofs.Repeats.{found-next}
 use Rattle.scan.specs.declared.views.SetRecord.{SetRecord}
-use Rattle.scan.specs.Views.{recorded}
+use Rattle.scan.specs.Views.{recorded, content_in}
 use Rattle.scan.specs.Tables.{records}
-use Rattle.reading.specs.Inner.{content_in}
+use Rattle.reading.proofs.Contents.{set_says}
 use Rattle.reading.proofs.Sweeps.{count-is, record_at}
 use Rattle.calls.specs.Finds.{set_in, record_in, place_in, place_among, hit, hit_in, hit_among}
 
--- a part, as far as it lies inside
-pub part-past : (xs : List ℕ) (at len : ℕ) → length xs ≤ at → [] ≡ take len (drop at xs)
-part-past xs at len h = sym (ap (take len) (drop_all at xs h) ∙ take_all len [] (omega arith))
-
-pub part-rest : (xs : List ℕ) (at len : ℕ) → length (take (length xs - at) (drop at xs)) ≤ len → take (length xs - at) (drop at xs) ≡ take len (drop at xs)
-part-rest xs at len h = take_rest xs at ∙ sym (take_all len (drop at xs) (omega (arith, ap length (take_rest xs at))))
-
-pub part-inside : (xs : List ℕ) (at len : ℕ) → take (len - 0) (take (length xs - at) (drop at xs)) ≡ take len (drop at xs)
-part-inside xs at len = let whole : len - 0 ≡ len = omega arith in λ i. take (whole i) (take_rest xs at i)
-
--- it is the content of an identifier behind a lead byte
-pub same-part : (xs c u : List ℕ) (r : SetRecord) (b : Bool) → r.number ≡ 0 → Decides b (u ≡ c) → u ≡ take r.id_len (drop r.id_at xs) → b ≡ bytes_eq (content_in xs r) c
-same-part xs c u r b e d is =
-    let led : content_in xs r ≡ take r.id_len (drop r.id_at xs) = cond-true (eqb r.number 0) (take r.id_len (drop r.id_at xs)) (r.number ∷ []) (eq-eqb r.number 0 e) in
-    let tested : b ≡ bytes_eq u c = search (rules, bytes_eq-Decides) in
-    tested ∙ ap (λ q. bytes_eq q c) (is ∙ sym led)
-
--- the record of a set says its identifier
-name-is : (xs : List ℕ) (at e : ℕ) (n : Name) → Fitting n → part n ≡ take (length (part n)) (drop (name_at at e n) xs) → cond (eqb (number n) 0) (take (length (part n)) (drop (name_at at e n) xs)) (number n ∷ []) ≡ content n
-name-is xs at e (bare n) fit h = cond-false (eqb n 0) [] (n ∷ []) (ne_eqb n 0 (λ z. omega (arith, fit.0)))
-name-is xs at e (byte n) fit h = cond-false (eqb n 0) [] (n ∷ []) (ne_eqb n 0 (λ z. omega (arith, fit.0)))
-name-is xs at e (led c) fit h = sym h
-
 abbrev pub Says : List ℕ → Found → Type 0
 Says xs f = content_in xs (recorded f.at f.set) ≡ identified f
-
-set_says : (xs : List ℕ) (f : Found) → next unpacked (drop f.at xs) ≡ tile (holds f.set) → Says xs f
-set_says xs f e =
-    let p : parse (drop f.at xs) ≡ tile (holds f.set) = next-parse unpacked (drop f.at xs) (holds f.set) e in
-    name-is xs f.at f.set.extra f.set.name (front (drop f.at xs) (holds f.set) p).1.0 (parts_stand xs f.at f.set p).name
 
 pub all_say : (xs : List ℕ) → AllByRecursion (Says xs) (found xs)
 all_say xs = All-weaker (λ f. next unpacked (drop f.at xs) ≡ tile (holds f.set)) (Says xs) (set_says xs) (found xs) (found-next xs)
@@ -76,6 +46,16 @@ pub hit_same : (xs c : List ℕ) (rs : List SetRecord) → rs ≡ records (found
 hit_same xs c rs e =
     let fs = found xs in
     λ j. hit (place_same xs c fs rs (all_say xs) e j) (λ i. is_some (place_same xs c (drop (i + 1) fs) (drop (i + 1) rs) (all_drop (Says xs) (i + 1) fs (all_say xs)) (ap (drop (i + 1)) e ∙ drop-map (λ (f : Found). recorded f.at f.set) (i + 1) fs) j))
+
+-- the first record that passes is the lowest
+pub place-is : (xs c : List ℕ) (rs : List SetRecord) → position (λ r. bytes_eq (content_in xs r) c) rs ≡ place_among xs c rs
+place-is xs c rs =
+    let p : SetRecord → Bool = λ r. bytes_eq (content_in xs r) c in
+    let n = position_or_len p rs in
+    ⊎_elim
+    (λ l. cond-true (ltb n (length rs)) (Some n) None (lt-ltb n (length rs) l) ∙ sym (lowest-some (λ i. p (record_in rs i)) (length rs) n l (passes_at_first p rs _ l) (λ k h. fails_before_first p rs k _ h)))
+    (λ g. cond-false (ltb n (length rs)) (Some n) None (le-ltb n (length rs) g) ∙ sym (lowest-none (λ i. p (record_in rs i)) (length rs) (λ k h. fails_before_first p rs k _ (omega arith))))
+    (cases_lt n (length rs))
 
 -- what is found, by where the first stands
 module _ (xs c : List ℕ) (rs : List SetRecord) where

@@ -1,8 +1,11 @@
 -- An object unpacked to the front of an output, or too long for it.
 use Rattle.std.proofs.Common.{◌≡◌, ℕ, ◌<◌, ◌≤◌, List, [], ◌∷◌, ◌++◌, length, drop, Some, None, Ok, Err, Option, Result, sym, refl, ap, ◌∙◌, ⊎_elim, arith, length-append, length-drop}
+use Rattle.std.specs.Option.{ok_or}
+use Rattle.std.specs.Result.{result_ok}
 use Rattle.std.proofs.ByRecursion.{All-get_or}
 use Rattle.std.proofs.lemmas.Bool.{lt-ltb, le-ltb}
 use Rattle.codes.specs.declared.fault.Fault.{Fault}
+use Rattle.codes.specs.Numbers.{code_number}
 use Rattle.codes.specs.Table.{unpacked_code}
 use Rattle.packing.specs.declared.choice.UnpackFault.TheVariants.{Code}
 use Rattle.packing.specs.Packing.{Stored, Lacks}
@@ -19,6 +22,8 @@ use Rattle.sets.proofs.Repeats.{found-next}
 use Rattle.scan.specs.declared.views.SetRecord.{SetRecord}
 use Rattle.scan.specs.Tables.{records}
 use Rattle.reading.proofs.Sweeps.{count-is, record_at}
+use Rattle.states.specs.declared.faults.CallFault.{CallFault}
+use Rattle.states.specs.declared.faults.CallFault.TheVariants.{Absent}
 use Rattle.calls.specs.declared.finds.Hit.{Hit}
 use Rattle.calls.specs.Rows.{row, first}
 use Rattle.calls.specs.Finds.{identifier_row, set_in, record_in, hit_in}
@@ -30,15 +35,18 @@ same-said (Ok x) = refl
 same-said (Err f) = refl
 
 -- a set that a step showed, and the code that unpacks it
-module _ (xs : List ℕ) (at : ℕ) (v : SetView) (stands : tile (holds (set_of v)) ≡ next unpacked (drop at xs)) (n : ℕ) (is : n ≡ v.place.code) where
+module _ (xs : List ℕ) (at : ℕ) (v : SetView) (stands : tile (holds (set_of v)) ≡ next unpacked (drop at xs)) where
+  abbrev n : ℕ
+  n = code_number v.place.code
+
   pub shown-is : object_shown (next unpacked (drop at xs)) ≡ packing.said (unpacked_code n v.object.now)
-  shown-is = ap object_shown (sym stands) ∙ same-said (unpacked_code v.place.code v.object.now) ∙ ap (λ k. packing.said (unpacked_code k v.object.now)) (sym is)
+  shown-is = ap object_shown (sym stands) ∙ same-said (unpacked_code n v.object.now)
 
   -- the scan has found no fault in it
   pub no_fault : (f : Fault) → unpacked_code n v.object.now ≡ Err f → ⊥
   no_fault f e =
       let x = object_of (set_of v) in
-      ⊎_elim (λ (h : 1 ≡ 0). omega arith) (λ (h : length x < length x). omega arith) (no_entry 1 [] xs at v stands x x (Code f) n is (e, refl) (set_of v) (sym stands))
+      ⊎_elim (λ (h : 1 ≡ 0). omega arith) (λ (h : length x < length x). omega arith) (no_entry 1 xs at v stands x x (Code f) (e, refl) (set_of v) (sym stands))
 
 module _ (x y old new : List ℕ) (n : ℕ) (is : x ≡ y) where
   pub takes : Stored y old new n → length new ≡ length old → (first (output_row x (length old) ∷ []) ≡ None) × (n ≡ length x) × (new ≡ put_out (first (output_row x (length old) ∷ [])) x old)
@@ -63,6 +71,14 @@ pub stands_at : (xs : List ℕ) (rs : List SetRecord) → rs ≡ records (found 
 stands_at xs rs e i h =
     ap (λ (r : SetRecord). next unpacked (drop r.at xs)) (record_at (found xs) rs i _ e h)
     ∙ All-get_or (λ f. next unpacked (drop f.at xs) ≡ tile (holds f.set)) (found xs) i _ (omega (arith, count-is (found xs) rs e)) (found-next xs)
+
+-- whether a set was found, by what is answered for one that was not
+pub was_missed : (o : Option Hit) (r : Result Hit CallFault) (y : CallFault) → r ≡ ok_or o Absent → r ≡ Err y → (None ≡ o) × (y ≡ Absent)
+was_missed None r y e is = (refl, cc)
+was_missed (Some h) r y e is = absurd (let z : ◌≡◌ {A = ℕ} 0 1 = cc in omega arith)
+
+pub was_found : (o : Option Hit) (r : Result Hit CallFault) (h : Hit) → o ≡ result_ok r → r ≡ Ok h → Some h ≡ o
+was_found o r h e is = sym (e ∙ ap result_ok is)
 
 -- the rows of the arguments, one after another
 module _ (c : List ℕ) (fs : List Found) (room : ℕ) where

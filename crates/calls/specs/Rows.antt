@@ -1,6 +1,6 @@
 -- The table of refusals, row by row.
-use Rattle.std.specs.Prelude.{◌≡◌, ℕ, ◌*◌, Bool, cond, not, ◌&&◌, List, [], ◌∷◌, ◌++◌, Some, None, Ok, Err, Option, Result, ◌==◌, nat_le, nat_lt}
-use Rattle.tags.specs.Tags.{Tag, in_limits}
+use Rattle.std.specs.Prelude.{◌≡◌, ℕ, ◌*◌, Bool, cond, not, ◌&&◌, List, [], ◌∷◌, ◌++◌, Some, None, Ok, Err, Option, Result, ◌==◌, nat_lt}
+use Rattle.tags.specs.Tags.{Tag, in_limits, known_format}
 use Rattle.sets.specs.Parsing.{plain}
 use Rattle.sets.specs.Scans.{Refusal}
 use Rattle.states.specs.declared.faults.CallFault.{CallFault}
@@ -51,10 +51,6 @@ room_rows count size w =
     ∷ row 4 2 (nat_lt w.table 341)
     ∷ row 4 3 (nat_lt w.scratch 3072)
     ∷ []
-
--- access method 0, data format 3 to 28
-abbrev pub known_format : ℕ → Bool
-known_format byte = nat_le 3 byte && nat_le byte 28
 
 abbrev pub system_row : ℕ → Row
 system_row byte = row 5 byte (not (known_format byte))

@@ -5,10 +5,9 @@ ghost use Rattle.calls.specs.Rows.{first, Answers};
 ghost use Rattle.calls.specs.Working.{unless};
 ghost use Rattle.calls.specs.Openings.{Opens, lowest_locked, format_rows, erased, formatted};
 
-use super::admission::known_format;
 use drivers::Driver;
 use states::{CallFault, Noted, OpenState};
-use tags::Shape;
+use tags::{Shape, known_format};
 
 // The lowest locked block.
 fn first_locked<D: Driver>(d: &mut D, count: usize) -> Result<Option<usize>, CallFault>
@@ -34,13 +33,14 @@ fn erase<D: Driver>(d: &mut D, shape: Shape) -> Result<(), CallFault>
     let zeros = [0; 32];
     let size = shape.size;
     for k in 0..shape.count {
-        d.write(k, &zeros[0..size])?;
+        d.write(k, &zeros[..size])?;
     }
     Ok(())
 }
 
-// The work of `format`.
-fn format_as<D: Driver>(d: &mut D, system: u8) -> Result<(OpenState, usize), CallFault>
+/// Sets the system byte and writes zeros to every block of a tag that has no locked one; gives an open state and all
+/// bytes as free. A declined format leaves the tag as it was.
+pub fn format<D: Driver>(d: &mut D, system: u8) -> Result<(OpenState, usize), CallFault>
     ensures answer { Answers (format_rows (D.Driver.tag d.old) system) (Opens (formatted (D.Driver.tag d.old) system)) result }
     ensures after { D.Driver.tag d.new ≡ unless (first (format_rows (D.Driver.tag d.old) system)) (D.Driver.tag d.old) (formatted (D.Driver.tag d.old) system) }
 {
@@ -58,13 +58,4 @@ fn format_as<D: Driver>(d: &mut D, system: u8) -> Result<(OpenState, usize), Cal
     erase(d, shape)?;
     let state = OpenState::of(Noted { shape, system });
     Ok((state, shape.count * shape.size))
-}
-
-/// Sets the system byte and writes zeros to every block of a tag that has no locked one; gives an open state and all
-/// bytes as free. A declined format leaves the tag as it was.
-pub fn format<D: Driver>(d: &mut D, system: u8) -> Result<(OpenState, usize), CallFault>
-    ensures answer { Answers (format_rows (D.Driver.tag d.old) system) (Opens (formatted (D.Driver.tag d.old) system)) result }
-    ensures after { D.Driver.tag d.new ≡ unless (first (format_rows (D.Driver.tag d.old) system)) (D.Driver.tag d.old) (formatted (D.Driver.tag d.old) system) }
-{
-    format_as(d, system)
 }

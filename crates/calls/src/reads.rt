@@ -12,7 +12,6 @@ ghost use Rattle.calls.specs.Reads.{shows_set, object_shown, object_named, outpu
 
 use super::finds::{check_identifier, find};
 use super::starts::prepare;
-use codes::Compaction;
 use drivers::Driver;
 use packing::{UnpackFault, unpack};
 use scan::{Scanned, SetRecord, scan_image, step};
@@ -24,24 +23,13 @@ fn unpack_at(image: &[u8], at: usize, output: &mut [u8]) -> Result<usize, CallFa
     ensures answer { Answers (output_row (object_shown (next unpacked (drop at image.now))) (length output.old) ∷ []) (λ n. n ≡ length (object_shown (next unpacked (drop at image.now)))) result }
     ensures after { output.new ≡ put_out (first (output_row (object_shown (next unpacked (drop at image.now))) (length output.old) ∷ [])) (object_shown (next unpacked (drop at image.now))) output.old }
 {
-    let seen = match step(image, at) {
-        Ok(seen) => seen,
-        Err(_) => unreachable(),
+    let Ok(Scanned::Set(set)) = step(image, at) else {
+        unreachable!()
     };
-    let set = match seen {
-        Scanned::Set(set) => set,
-        Scanned::End => unreachable(),
-        Scanned::Filler => unreachable(),
-    };
-    let Some(code) = Compaction::from_number(set.place.code) else {
-        unreachable()
-    };
-    match unpack(code, set.object, output) {
+    match unpack(set.place.code, set.object, output) {
         Ok(long) => Ok(long),
-        Err(fault) => match fault {
-            UnpackFault::Short(needed) => Err(CallFault::Output(needed)),
-            UnpackFault::Code(_) => unreachable(),
-        },
+        Err(UnpackFault::Short(needed)) => Err(CallFault::Output(needed)),
+        Err(UnpackFault::Code(_)) => unreachable!(),
     }
 }
 
@@ -57,32 +45,9 @@ fn take_object(
     ensures after { output.new ≡ put_out (first (take_rows identifier.now (found image.now) (length output.old))) (object_named identifier.now (found image.now)) output.old }
 {
     check_identifier(identifier)?;
-    let Some(hit) = find(image, sets, identifier) else {
-        return Err(CallFault::Absent);
-    };
+    let hit = find(image, sets, identifier).ok_or(CallFault::Absent)?;
     let long = unpack_at(image, sets[hit.index].at, output)?;
     Ok((long, hit.again))
-}
-
-// The work of `read`.
-fn read_first<D: Driver>(
-    d: &mut D,
-    image: &mut [u8],
-    table: &mut [SetRecord],
-    scratch: &mut [u8],
-    identifier: &[u8],
-    output: &mut [u8],
-) -> Result<(usize, bool), CallFault>
-    ensures answer { Answers (read_rows (D.Driver.tag d.old) (rooms (length image.old) (length table.old) (length scratch.old)) identifier.now (length output.old)) (Takes identifier.now (found (bytes (D.Driver.tag d.old)))) result }
-    ensures output { output.new ≡ put_out (first (read_rows (D.Driver.tag d.old) (rooms (length image.old) (length table.old) (length scratch.old)) identifier.now (length output.old))) (object_named identifier.now (found (bytes (D.Driver.tag d.old)))) output.old }
-    ensures after { work image.new table.new scratch.new ≡ worked (D.Driver.tag d.old) None (D.Driver.tag d.old) (work image.old table.old scratch.old) }
-    ensures same { D.Driver.tag d.new ≡ D.Driver.tag d.old }
-{
-    let here = prepare(d, None, image, table.len(), scratch)?;
-    let end = here.shape.count * here.shape.size;
-    let tally = scan_image(&image[0..end], table)?;
-    let sets = tally.sets;
-    take_object(&image[0..end], &table[0..sets], identifier, output)
 }
 
 /// The object of an identifier, at the front of the output: its length, and whether the identifier occurs again, of
@@ -100,5 +65,8 @@ pub fn read<D: Driver>(
     ensures after { work image.new table.new scratch.new ≡ worked (D.Driver.tag d.old) None (D.Driver.tag d.old) (work image.old table.old scratch.old) }
     ensures same { D.Driver.tag d.new ≡ D.Driver.tag d.old }
 {
-    read_first(d, image, table, scratch, identifier, output)
+    let here = prepare(d, None, image, table.len(), scratch)?;
+    let image = &image[..here.shape.count * here.shape.size];
+    let tally = scan_image(image, table)?;
+    take_object(image, &table[..tally.sets], identifier, output)
 }

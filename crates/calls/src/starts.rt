@@ -5,25 +5,20 @@ ghost use Rattle.calls.specs.Rows.{first, Answers, rooms, seen, start_rows};
 ghost use Rattle.calls.specs.Working.{work, imaged, zeroed, unless};
 ghost use Rattle.calls.specs.Starts.{begin_rows, worked, Begins};
 
-use super::admission::admit;
+use super::admission::{Rooms, admit};
 use drivers::{Driver, read_all};
-use reading::check;
+use reading::Memory;
 use scan::{SetRecord, Tally};
 use states::{CallFault, Noted};
+use tags::Shape;
 
 /// What the beginning of a call found.
-#[derive(Clone, Copy)]
+#[derive(Clone, Copy, Debug)]
 pub struct Begun {
     pub noted: Noted,
     /// A byte to each block, not zero where it is locked.
     pub locks: [u8; 256],
     pub tally: Tally,
-}
-
-fn zero(part: &mut [u8])
-    ensures after { part.new ≡ zeroed part.old }
-{
-    part.fill(0);
 }
 
 // Reads the tag whole and zeroes the scratch, unless one of the first rows holds.
@@ -39,17 +34,15 @@ pub(crate) fn prepare<D: Driver>(
     ensures scratch { scratch.new ≡ unless (first (start_rows (D.Driver.tag d.old) noted (rooms (length image.old) table (length scratch.old)))) scratch.old (zeroed scratch.old) }
     ensures same { D.Driver.tag d.new ≡ D.Driver.tag d.old }
 {
-    let here = admit(d, noted, image.len(), table, scratch.len())?;
+    let lent = Rooms {
+        image: image.len(),
+        table,
+        scratch: scratch.len(),
+    };
+    let here = admit(d, noted, lent)?;
     read_all(d, image)?;
-    zero(scratch);
+    scratch.fill(0);
     Ok(here)
-}
-
-// A lock as a byte.
-fn lock_byte(locked: bool) -> u8
-    ensures value { nonzero result ≡ locked }
-{
-    if locked { 1 } else { 0 }
 }
 
 // The locks of all blocks, a byte to each.
@@ -60,40 +53,15 @@ fn read_locks<D: Driver>(d: &mut D, count: usize, locks: &mut [u8]) -> Result<()
     ensures same { D.Driver.tag d.new ≡ D.Driver.tag d.old }
 {
     for k in 0..count {
-        locks[k] = lock_byte(d.locked(k)?);
+        locks[k] = u8::from(d.locked(k)?);
     }
     Ok(())
-}
-
-// The work of `begin`.
-fn begin_with<D: Driver>(
-    d: &mut D,
-    noted: Option<Noted>,
-    image: &mut [u8],
-    table: &mut [SetRecord],
-    scratch: &mut [u8],
-) -> Result<Begun, CallFault>
-    ensures answer { Answers (begin_rows (D.Driver.tag d.old) noted (rooms (length image.old) (length table.old) (length scratch.old))) (Begins (D.Driver.tag d.old)) result }
-    ensures after { work image.new table.new scratch.new ≡ worked (D.Driver.tag d.old) noted (D.Driver.tag d.old) (work image.old table.old scratch.old) }
-    ensures same { D.Driver.tag d.new ≡ D.Driver.tag d.old }
-{
-    let here = prepare(d, noted, image, table.len(), scratch)?;
-    let count = here.shape.count;
-    let size = here.shape.size;
-    let mut locks = [0; 256];
-    read_locks(d, count, &mut locks)?;
-    let end = count * size;
-    let tally = check(&image[0..end], &locks[0..count], size, table)?;
-    Ok(Begun {
-        noted: here,
-        locks,
-        tally,
-    })
 }
 
 /// How every call begins that checks what the tag holds: its shape and the lent memory; its system byte, or where a
 /// state noted them shape and system byte; then the image read, the scratch zeroed and the table filled, and what was
 /// read checked against the locks.
+// Stays: the three as one value that is lent by `&mut` get no proof, since the table is written while the image is read.
 pub fn begin<D: Driver>(
     d: &mut D,
     noted: Option<Noted>,
@@ -105,5 +73,19 @@ pub fn begin<D: Driver>(
     ensures after { work image.new table.new scratch.new ≡ worked (D.Driver.tag d.old) noted (D.Driver.tag d.old) (work image.old table.old scratch.old) }
     ensures same { D.Driver.tag d.new ≡ D.Driver.tag d.old }
 {
-    begin_with(d, noted, image, table, scratch)
+    let here = prepare(d, noted, image, table.len(), scratch)?;
+    let Shape { count, size } = here.shape;
+    let mut locks = [0; 256];
+    read_locks(d, count, &mut locks)?;
+    let memory = Memory {
+        image: &image[..count * size],
+        locks: &locks[..count],
+        size,
+    };
+    let tally = memory.check(table)?;
+    Ok(Begun {
+        noted: here,
+        locks,
+        tally,
+    })
 }

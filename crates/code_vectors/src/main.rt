@@ -5,100 +5,61 @@
 // are `refuse-pack CODE OBJECT ROOM size`, `.. code` or `.. short N`, and `refuse-unpack CODE PACKED ROOM short N`.
 #![tactic(auto)]
 
-use anyhow::{Context, anyhow};
-use codes::{Compaction, Kind};
+use anyhow::{anyhow, bail};
+use codes::{Compaction, Kind, UnknownNumber};
 use packing::{PackFault, UnpackFault, measure, pack, pack_as, unpack};
-use std::alloc::Global;
+use std::alloc::{AllocError, Global};
 use std::io::{BufRead, BufReader};
+use vectors::bytes;
 
 // What an output holds before a call; a call has to leave it where it writes nothing.
 const FILL: u8 = 0xa5;
 
-fn digit(b: u8) -> Option<u8> {
-    match b {
-        b'0'..=b'9' => Some(b - b'0'),
-        b'A'..=b'F' => Some(b - b'A' + 10),
-        _ => None,
+#[derive(Drop)]
+struct Output(Vec<u8>);
+
+impl Output {
+    fn of(heap: Global, room: usize) -> Result<Self, AllocError> {
+        Ok(Output(vec![in heap; FILL; room]?))
+    }
+
+    fn room(&mut self) -> &mut [u8] {
+        self.0.as_mut_slice()
+    }
+
+    // `wanted` at the front, and what was there before behind it.
+    fn holds(&self, wanted: &[u8]) -> bool {
+        self.0
+            .strip_prefix(wanted)
+            .is_some_and(|rest| rest.iter().all(|b| *b == FILL))
     }
 }
 
-fn bytes(heap: Global, text: &str) -> anyhow::Result<Vec<u8>> {
-    let mut out = Vec::new(heap);
-    if text == "-" {
-        return Ok(out);
-    }
-    let mut high = None;
-    for b in text.bytes() {
-        let low = digit(b).context("not hexadecimal")?;
-        match high {
-            None => high = Some(low),
-            Some(h) => {
-                out.push(((u32::from(h) * 16 + u32::from(low)) & 0xff) as u8)?;
-                high = None;
-            }
-        }
-    }
-    Ok(out)
+// The kind or the code of a number.
+fn numbered<T: TryFrom<u8, Error = UnknownNumber>>(word: &str) -> anyhow::Result<T> {
+    Ok(T::try_from(word.parse::<u8>()?)?)
 }
 
-// `wanted` at the front of `out`, and what was there before behind it.
-fn holds(out: &[u8], wanted: &[u8]) -> bool {
-    for (i, b) in out.iter().enumerate() {
-        let right = wanted.get(i).copied().unwrap_or(FILL);
-        if *b != right {
-            return false;
-        }
-    }
-    wanted.len() <= out.len()
-}
-
-fn packs(heap: Global, words: &[&str]) -> anyhow::Result<bool> {
-    if words.len() != 5 {
-        return Err(anyhow!("a pack case has five words"));
-    }
-    let kind = Kind::from_number(words[1].parse::<u8>()?).context("no such kind")?;
-    let object = bytes(heap, words[2])?;
-    let code = words[3].parse::<u8>()?;
-    let packed = bytes(heap, words[4])?;
-    let mut out = vec![in heap; FILL; 2100]?;
-    match pack(kind, object.as_slice(), out.as_mut_slice()) {
-        Ok(p) => Ok(
-            p.code.number() == code
-                && p.length == packed.len()
-                && holds(out.as_slice(), packed.as_slice()),
-        ),
-        Err(_) => Ok(false),
-    }
-}
-
-fn unpacks(heap: Global, words: &[&str]) -> anyhow::Result<bool> {
-    if words.len() < 5 {
-        return Err(anyhow!("an unpack case has five words or six"));
-    }
-    let code = Compaction::from_number(words[1].parse::<u8>()?).context("no such code")?;
-    let packed = bytes(heap, words[2])?;
-    if words[3] == "object" {
-        return says(heap, code, packed.as_slice(), words[4]);
-    }
-    if words.len() != 6 {
-        return Err(anyhow!("a fault has a number and a group"));
-    }
-    let number = words[4].parse::<u8>()?;
-    let group = words[5].parse::<usize>()?;
-    fails(heap, code, packed.as_slice(), number, group)
-}
-
-fn says(heap: Global, code: Compaction, packed: &[u8], object: &str) -> anyhow::Result<bool> {
-    let object = bytes(heap, object)?;
-    let mut out = vec![in heap; FILL; 5000]?;
-    let length = match measure(code, packed) {
-        Ok(n) => n,
-        Err(_) => return Ok(false),
+fn packs(
+    heap: Global,
+    kind: Kind,
+    object: &[u8],
+    code: Compaction,
+    packed: &[u8],
+) -> anyhow::Result<bool> {
+    let mut out = Output::of(heap, 2100)?;
+    let Ok(p) = pack(kind, object, out.room()) else {
+        return Ok(false);
     };
-    match unpack(code, packed, out.as_mut_slice()) {
-        Ok(n) => Ok(n == length && n == object.len() && holds(out.as_slice(), object.as_slice())),
-        Err(_) => Ok(false),
-    }
+    Ok(p.code == code && p.length == packed.len() && out.holds(packed))
+}
+
+fn says(heap: Global, code: Compaction, packed: &[u8], object: &[u8]) -> anyhow::Result<bool> {
+    let mut out = Output::of(heap, 5000)?;
+    let (Ok(length), Ok(written)) = (measure(code, packed), unpack(code, packed, out.room())) else {
+        return Ok(false);
+    };
+    Ok(length == object.len() && written == object.len() && out.holds(object))
 }
 
 fn fails(
@@ -108,97 +69,117 @@ fn fails(
     number: u8,
     group: usize,
 ) -> anyhow::Result<bool> {
-    let mut out = vec![in heap; FILL; 5000]?;
-    match unpack(code, packed, out.as_mut_slice()) {
-        Err(UnpackFault::Code(f)) => {
-            Ok(f.number() == number && f.group() == group && holds(out.as_slice(), &[]))
-        }
-        Ok(_) | Err(UnpackFault::Short(_)) => Ok(false),
-    }
-}
-
-// Whether the last words of a case say that an output is too short for `n` bytes.
-fn says_short(words: &[&str], n: usize) -> anyhow::Result<bool> {
-    if words.len() != 6 {
+    let mut out = Output::of(heap, 5000)?;
+    let Err(UnpackFault::Code(f)) = unpack(code, packed, out.room()) else {
         return Ok(false);
-    }
-    Ok(words[4] == "short" && words[5].parse::<usize>()? == n)
-}
-
-fn refuses_to_pack(heap: Global, words: &[&str]) -> anyhow::Result<bool> {
-    if words.len() < 5 {
-        return Err(anyhow!("a refusal has five words or six"));
-    }
-    let code = Compaction::from_number(words[1].parse::<u8>()?).context("no such code")?;
-    let object = bytes(heap, words[2])?;
-    let mut out = vec![in heap; FILL; words[3].parse::<usize>()?]?;
-    let right = match pack_as(code, object.as_slice(), out.as_mut_slice()) {
-        Ok(_) => false,
-        Err(PackFault::Size) => words[4] == "size",
-        Err(PackFault::NotPermitted) => words[4] == "code",
-        Err(PackFault::TooShort(n)) => says_short(words, n)?,
     };
-    Ok(right && holds(out.as_slice(), &[]))
+    Ok(f.number() == number && f.group() == group && out.holds(&[]))
 }
 
-fn refuses_to_unpack(heap: Global, words: &[&str]) -> anyhow::Result<bool> {
-    if words.len() < 5 {
-        return Err(anyhow!("a refusal has five words or six"));
-    }
-    let code = Compaction::from_number(words[1].parse::<u8>()?).context("no such code")?;
-    let packed = bytes(heap, words[2])?;
-    let mut out = vec![in heap; FILL; words[3].parse::<usize>()?]?;
-    let right = match unpack(code, packed.as_slice(), out.as_mut_slice()) {
-        Err(UnpackFault::Short(n)) => says_short(words, n)?,
-        Ok(_) | Err(UnpackFault::Code(_)) => false,
+fn refuses_to_pack(
+    heap: Global,
+    code: Compaction,
+    object: &[u8],
+    room: usize,
+    why: &[&str],
+) -> anyhow::Result<bool> {
+    let mut out = Output::of(heap, room)?;
+    let right = match (pack_as(code, object, out.room()), why) {
+        (Err(PackFault::Size), ["size"]) | (Err(PackFault::NotPermitted), ["code"]) => true,
+        (Err(PackFault::TooShort(n)), ["short", needed]) => n == needed.parse::<usize>()?,
+        _ => false,
     };
-    Ok(right && holds(out.as_slice(), &[]))
+    Ok(right && out.holds(&[]))
 }
 
-#[derive(Drop)]
+fn refuses_to_unpack(
+    heap: Global,
+    code: Compaction,
+    packed: &[u8],
+    room: usize,
+    needed: usize,
+) -> anyhow::Result<bool> {
+    let mut out = Output::of(heap, room)?;
+    let Err(UnpackFault::Short(n)) = unpack(code, packed, out.room()) else {
+        return Ok(false);
+    };
+    Ok(n == needed && out.holds(&[]))
+}
+
+fn case(heap: Global, words: &[&str]) -> anyhow::Result<bool> {
+    match words {
+        ["pack", kind, object, code, packed] => packs(
+            heap,
+            numbered(kind)?,
+            bytes(heap, object)?.as_slice(),
+            numbered(code)?,
+            bytes(heap, packed)?.as_slice(),
+        ),
+        ["unpack", code, packed, "object", object] => says(
+            heap,
+            numbered(code)?,
+            bytes(heap, packed)?.as_slice(),
+            bytes(heap, object)?.as_slice(),
+        ),
+        ["unpack", code, packed, "fault", number, group] => fails(
+            heap,
+            numbered(code)?,
+            bytes(heap, packed)?.as_slice(),
+            number.parse()?,
+            group.parse()?,
+        ),
+        ["refuse-pack", code, object, room, why @ ..] => refuses_to_pack(
+            heap,
+            numbered(code)?,
+            bytes(heap, object)?.as_slice(),
+            room.parse()?,
+            why,
+        ),
+        ["refuse-unpack", code, packed, room, "short", needed] => refuses_to_unpack(
+            heap,
+            numbered(code)?,
+            bytes(heap, packed)?.as_slice(),
+            room.parse()?,
+            needed.parse()?,
+        ),
+        _ => Err(anyhow!("no such case")),
+    }
+}
+
+#[derive(Default, Drop)]
 struct Counts {
     packed: u64,
     unpacked: u64,
     refused: u64,
 }
 
-fn case(heap: Global, line: &str, counts: &mut Counts) -> anyhow::Result<bool> {
-    let words: Vec<&str> = line.split(' ').collect(heap)?;
-    match words.first().copied() {
-        Some("pack") => {
-            counts.packed = counts.packed.saturating_add(1);
-            packs(heap, words.as_slice())
-        }
-        Some("unpack") => {
-            counts.unpacked = counts.unpacked.saturating_add(1);
-            unpacks(heap, words.as_slice())
-        }
-        Some("refuse-pack") => {
-            counts.refused = counts.refused.saturating_add(1);
-            refuses_to_pack(heap, words.as_slice())
-        }
-        Some("refuse-unpack") => {
-            counts.refused = counts.refused.saturating_add(1);
-            refuses_to_unpack(heap, words.as_slice())
-        }
-        _ => Err(anyhow!("no such case")),
+impl Counts {
+    fn count(&mut self, words: &[&str]) {
+        let sort = match words.first().copied() {
+            Some("pack") => &mut self.packed,
+            Some("unpack") => &mut self.unpacked,
+            _ => &mut self.refused,
+        };
+        *sort = sort.saturating_add(1);
     }
 }
 
 fn compare(rt: &HostRuntime) -> anyhow::Result<()> {
-    let mut counts = Counts {
-        packed: 0,
-        unpacked: 0,
-        refused: 0,
-    };
+    let mut counts = Counts::default();
     for line in BufReader::new(rt.alloc(), rt.stdin())?.lines(rt.alloc()) {
         let line = line?;
-        if !case(rt.alloc(), line.as_str(), &mut counts)? {
+        let words: Vec<&str> = line.split(' ').collect(rt.alloc())?;
+        if !case(rt.alloc(), words.as_slice())? {
             println!(rt; "differs: {line}")?;
-            return Err(anyhow!("a case differs"));
+            bail!("a case differs");
         }
+        counts.count(words.as_slice());
     }
-    let (packed, unpacked, refused) = (counts.packed, counts.unpacked, counts.refused);
+    let Counts {
+        packed,
+        unpacked,
+        refused,
+    } = counts;
     println!(rt; "packed {packed} unpacked {unpacked} refused {refused} differ 0")?;
     println!(rt;
         "worked examples held by the definitions {}",

@@ -1,5 +1,6 @@
 -- The table of codes: what each is for, how it packs an object, what its bytes say.
 use Rattle.std.specs.Prelude.{ℕ, suc, ◌+◌, ◌-◌, ◌*◌, ◌/◌, ◌%◌, ◌^◌, Bool, true, false, cond, not, ◌&&◌, List, [], ◌∷◌, map, length, take, drop, Ok, Err, Result, ◌==◌, nat_le, nat_lt, slice_index, slice_index_or}
+use Rattle.std.specs.List.{list_all}
 use Rattle.std.specs.Int.Digits.{digits_of, number_from_digits}
 use Rattle.codes.specs.Bits.{bits, val, spread, groups, packed, trimmed}
 use Rattle.codes.specs.declared.fault.Fault.{Fault}
@@ -7,8 +8,7 @@ use Rattle.codes.specs.declared.fault.Fault.TheVariants.{TooLarge, NoCharacter, 
 
 -- every byte of an object lies from lo to hi
 abbrev pub within : ℕ → ℕ → List ℕ → Bool
-within lo hi [] = true
-within lo hi (b ∷ bs) = (nat_le lo b && nat_le b hi) && within lo hi bs
+within lo hi bs = list_all (λ b. nat_le lo b && nat_le b hi) bs
 
 -- Integer: the value of decimal digits, and the decimal digits of a value.
 abbrev pub value : List ℕ → ℕ

@@ -1,32 +1,50 @@
 // The kinds of objects, and the compaction codes that they are packed by.
-ghost use Rattle.std.specs.Prelude.{◌≡◌, ◌<◌, MatchOption};
+ghost use Rattle.std.specs.Prelude.{◌≡◌, ◌<◌, MatchResult};
 ghost use Rattle.codes.specs.Numbers.{kind_number, code_number};
 
+use std::error::Error;
+use std::fmt;
+
+/// A number that no kind, or no code, has.
+#[derive(Clone, Copy, Debug, PartialEq, Eq)]
+pub struct UnknownNumber(pub u8);
+
+impl fmt::Display for UnknownNumber {
+    fn fmt<W: fmt::Write>(&self, f: &mut fmt::Formatter<W>) -> fmt::Result {
+        write!(f, "nothing has the number {}", self.0)
+    }
+}
+
+impl Error for UnknownNumber {}
+
 /// What the bytes of an object are: an application's own, text that is packed as short as it goes, UTF-8.
-#[derive(Clone, Copy)]
+#[derive(Clone, Copy, Debug, PartialEq, Eq)]
 pub enum Kind {
     Application,
     Compact,
     Utf8,
 }
 
-impl Kind {
-    /// The kind of a number, which is at most 2.
-    pub fn from_number(number: u8) -> Option<Kind>
-        ensures { MatchOption result (2 < number) (λ k. kind_number k ≡ number) }
-    {
+impl TryFrom<u8> for Kind {
+    type Error = UnknownNumber;
+
+    ghost try_from_gives = { λ n r. MatchResult r (λ k. kind_number k ≡ n) (λ _. 2 < n) };
+
+    fn try_from(number: u8) -> Result<Self, UnknownNumber> {
         match number {
-            0 => Some(Kind::Application),
-            1 => Some(Kind::Compact),
-            2 => Some(Kind::Utf8),
-            _ => None,
+            0 => Ok(Kind::Application),
+            1 => Ok(Kind::Compact),
+            2 => Ok(Kind::Utf8),
+            _ => Err(UnknownNumber(number)),
         }
     }
+}
 
-    pub fn number(&self) -> u8
-        ensures { result ≡ kind_number self.now }
-    {
-        match self {
+impl From<Kind> for u8 {
+    ghost from_gives = { λ k r. r ≡ kind_number k };
+
+    fn from(kind: Kind) -> u8 {
+        match kind {
             Kind::Application => 0,
             Kind::Compact => 1,
             Kind::Utf8 => 2,
@@ -35,7 +53,7 @@ impl Kind {
 }
 
 /// The code of a set, as its precursor has it.
-#[derive(Clone, Copy)]
+#[derive(Clone, Copy, Debug, PartialEq, Eq)]
 pub enum Compaction {
     ApplicationDefined,
     Integer,
@@ -47,28 +65,31 @@ pub enum Compaction {
     Utf8String,
 }
 
-impl Compaction {
-    /// The code of a number, which is at most 7.
-    pub fn from_number(number: u8) -> Option<Compaction>
-        ensures { MatchOption result (7 < number) (λ c. code_number c ≡ number) }
-    {
+impl TryFrom<u8> for Compaction {
+    type Error = UnknownNumber;
+
+    ghost try_from_gives = { λ n r. MatchResult r (λ c. code_number c ≡ n) (λ _. 7 < n) };
+
+    fn try_from(number: u8) -> Result<Self, UnknownNumber> {
         match number {
-            0 => Some(Compaction::ApplicationDefined),
-            1 => Some(Compaction::Integer),
-            2 => Some(Compaction::Numeric),
-            3 => Some(Compaction::FiveBit),
-            4 => Some(Compaction::SixBit),
-            5 => Some(Compaction::SevenBit),
-            6 => Some(Compaction::OctetString),
-            7 => Some(Compaction::Utf8String),
-            _ => None,
+            0 => Ok(Compaction::ApplicationDefined),
+            1 => Ok(Compaction::Integer),
+            2 => Ok(Compaction::Numeric),
+            3 => Ok(Compaction::FiveBit),
+            4 => Ok(Compaction::SixBit),
+            5 => Ok(Compaction::SevenBit),
+            6 => Ok(Compaction::OctetString),
+            7 => Ok(Compaction::Utf8String),
+            _ => Err(UnknownNumber(number)),
         }
     }
+}
 
-    pub fn number(&self) -> u8
-        ensures { result ≡ code_number self.now }
-    {
-        match self {
+impl From<Compaction> for u8 {
+    ghost from_gives = { λ c r. r ≡ code_number c };
+
+    fn from(code: Compaction) -> u8 {
+        match code {
             Compaction::ApplicationDefined => 0,
             Compaction::Integer => 1,
             Compaction::Numeric => 2,

@@ -9,7 +9,7 @@ mod fault;
 mod kind;
 
 pub use fault::Fault;
-pub use kind::{Compaction, Kind};
+pub use kind::{Compaction, Kind, UnknownNumber};
 
 /// How many worked examples the definitions are held to; and each group of an alphabet stands for one character.
 pub fn examples_hold() -> usize

@@ -17,6 +17,4 @@ driver_place (WrongBuffer k) = k
 driver_place (Locked k) = k
 
 abbrev pub driver_layer : DriverFault → Layer
-driver_layer (NoBlock k) = Driver
-driver_layer (WrongBuffer k) = Driver
-driver_layer (Locked k) = Driver
+driver_layer f = Driver

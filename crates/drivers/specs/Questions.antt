@@ -16,6 +16,14 @@ system_answer t = Ok t.system
 abbrev pub locked_answer : Tag → ℕ → Result Bool DriverFault
 locked_answer t k = cond (nat_lt k t.count) (Ok (shut t k)) (Err (NoBlock k))
 
+-- to be asked of block k, where there are n blocks
+abbrev pub block_answer : ℕ → ℕ → Result (Unit {0}) DriverFault
+block_answer n k = cond (nat_lt k n) (Ok tt) (Err (NoBlock k))
+
+-- to be asked of it with a buffer of m bytes, where blocks have b
+abbrev pub buffer_answer : ℕ → ℕ → ℕ → ℕ → Result (Unit {0}) DriverFault
+buffer_answer n b k m = cond (nat_lt k n) (cond (m == b) (Ok tt) (Err (WrongBuffer k))) (Err (NoBlock k))
+
 -- to read block k into a buffer of m bytes
 abbrev pub read_answer : Tag → ℕ → ℕ → Result (Unit {0}) DriverFault
 read_answer t k m = cond (nat_lt k t.count) (cond (m == t.size) (Ok tt) (Err (WrongBuffer k))) (Err (NoBlock k))

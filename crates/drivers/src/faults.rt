@@ -1,12 +1,13 @@
 // How a driver refuses.
 ghost use Rattle.std.specs.Prelude.{◌≡◌};
 ghost use Rattle.drivers.specs.Faults.{driver_number, driver_place, driver_layer};
+ghost use Rattle.drivers.specs.Layers.{refused_at};
 ghost use Rattle.drivers.specs.declared.faults.WholeFault.TheVariants.{Driver as OfDriver};
 
-use tags::Layer;
+use tags::{Layer, Refusal};
 
 /// A driver's refusal, with the block that it was asked for.
-#[derive(Clone, Copy)]
+#[derive(Clone, Copy, Debug, PartialEq, Eq)]
 pub enum DriverFault {
     /// There is no such block.
     NoBlock(usize),
@@ -17,9 +18,22 @@ pub enum DriverFault {
 }
 
 impl DriverFault {
-    pub fn number(self) -> u8
-        ensures value { result ≡ driver_number self }
+    /// The same refusal, told of block `k`.
+    pub fn at(self, k: usize) -> DriverFault
+        ensures value { result ≡ refused_at k self }
     {
+        match self {
+            DriverFault::NoBlock(_) => DriverFault::NoBlock(k),
+            DriverFault::WrongBuffer(_) => DriverFault::WrongBuffer(k),
+            DriverFault::Locked(_) => DriverFault::Locked(k),
+        }
+    }
+}
+
+impl Refusal for DriverFault {
+    ghost told = { λ f. record { number = driver_number f; place = driver_place f; group = 0; layer = driver_layer f } };
+
+    fn number(&self) -> u8 {
         match self {
             DriverFault::NoBlock(_) => 28,
             DriverFault::WrongBuffer(_) => 29,
@@ -27,27 +41,23 @@ impl DriverFault {
         }
     }
 
-    pub fn place(self) -> usize
-        ensures value { result ≡ driver_place self }
-    {
+    fn place(&self) -> usize {
         match self {
-            DriverFault::NoBlock(k) | DriverFault::WrongBuffer(k) | DriverFault::Locked(k) => k,
+            DriverFault::NoBlock(k) | DriverFault::WrongBuffer(k) | DriverFault::Locked(k) => *k,
         }
     }
 
-    pub fn layer(self) -> Layer
-        ensures value { result ≡ driver_layer self }
-    {
-        match self {
-            DriverFault::NoBlock(_) | DriverFault::WrongBuffer(_) | DriverFault::Locked(_) => {
-                Layer::Driver
-            }
-        }
+    fn group(&self) -> usize {
+        0
+    }
+
+    fn layer(&self) -> Layer {
+        Layer::Driver
     }
 }
 
 /// Why a tag is not read whole.
-#[derive(Clone, Copy)]
+#[derive(Clone, Copy, Debug, PartialEq, Eq)]
 pub enum WholeFault {
     /// The image has not so many bytes.
     Room(usize),

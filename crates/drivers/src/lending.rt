@@ -4,41 +4,36 @@ ghost use Rattle.std.specs.Prelude.{◌≡◌};
 use super::{Driver, DriverFault};
 use tags::Shape;
 
-#[derive(Drop)]
-pub struct Lent<'a, D> {
-    pub to: &'a mut D,
-}
+impl<D: Driver> Driver for &mut D {
+    ghost tag = { λ s. D.Driver.tag s.now };
 
-impl<D: Driver> Driver for Lent<'_, D> {
-    ghost tag = { λ s. D.Driver.tag s.to.now };
-
-    ghost shaped = { λ s. D.Driver.shaped s.to.now };
+    ghost shaped = { λ s. D.Driver.shaped s.now };
 
     fn shape(&self) -> Shape {
-        self.to.shape()
+        (**self).shape()
     }
 
     fn system(&mut self) -> Result<u8, DriverFault> {
-        self.to.system()
+        (**self).system()
     }
 
     fn locked(&mut self, k: usize) -> Result<bool, DriverFault> {
-        self.to.locked(k)
+        (**self).locked(k)
     }
 
     fn read(&mut self, k: usize, out: &mut [u8]) -> Result<(), DriverFault> {
-        self.to.read(k, out)
+        (**self).read(k, out)
     }
 
     fn write(&mut self, k: usize, from: &[u8]) -> Result<(), DriverFault> {
-        self.to.write(k, from)
+        (**self).write(k, from)
     }
 
     fn lock(&mut self, k: usize) -> Result<(), DriverFault> {
-        self.to.lock(k)
+        (**self).lock(k)
     }
 
     fn set_system(&mut self, b: u8) -> Result<(), DriverFault> {
-        self.to.set_system(b)
+        (**self).set_system(b)
     }
 }

@@ -8,12 +8,13 @@ ghost use Rattle.drivers.specs.Changes.{write_answer, write_tag, lock_answer, lo
 
 use tags::Shape;
 
+pub mod checks;
 pub mod faults;
 pub mod lending;
 pub mod wholes;
 
+pub use checks::{check_block, check_buffer};
 pub use faults::{DriverFault, WholeFault};
-pub use lending::Lent;
 pub use wholes::read_all;
 
 /// A tag, block by block. A refusal alters neither the driver nor a buffer.

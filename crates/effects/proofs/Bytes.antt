@@ -13,8 +13,10 @@ use Rattle.sets.specs.Writing.{encode}
 use Rattle.sets.specs.Layouts.{laid}
 use Rattle.sets.proofs.Shared.{written-bytes}
 use Rattle.writing.proofs.Formed.{form_writable}
+use Rattle.writing.specs.Forms.{Wanted, Fit, formed}
+use Rattle.rivals.specs.Rooms.{whole}
 use Rattle.layout.specs.declared.items.Behind.TheVariants.{Locked, End}
-use Rattle.layout.specs.Plans.{Wanted, Fit, formed, least, total, run, taken, whole, nothing, nth}
+use Rattle.layout.specs.Plans.{least, total, run, taken, nothing, nth}
 use Rattle.layout.specs.Lays.{laid_gap}
 use Rattle.layout.proofs.Anews.{form-told}
 use Rattle.layout.proofs.Runs.{laid-append, taken-few}
@@ -48,7 +50,7 @@ packed-under k x u = packing-under (code k).way x u
 formed-under : (extra : ℕ) (w : Wanted) → Given w → extra ≤ 256 → AllBelowBase 256 (encode (formed extra w))
 formed-under extra w g few =
     let name : content (formed extra w).name ≡ w.identifier = ap (λ e. e.identifier) (form-told extra w g.fit) in
-    written-bytes (formed extra w) (form_writable extra w.identifier w.kind w.object g.fit.identifier g.fit.object few)
+    written-bytes (formed extra w) (form_writable extra w g.fit few)
     (subst (AllBelowBase 256) (sym name) g.identifier) (packed-under (first_code (kind_number w.kind) w.object) w.object g.object)
 
 run-under : (ws : List Wanted) (extra : ℕ) → AllByRecursion Given ws → extra ≤ 256 → AllBelowBase 256 (laid (run ws extra))

@@ -11,8 +11,9 @@ use Rattle.rivals.specs.Rooms as rooms
 use Rattle.rivals.proofs.Anew.{reads_distinct, place_in-gap}
 use Rattle.rivals.proofs.Holds.{total-at}
 use Rattle.rivals.proofs.Promised.{list-with, room, no_room-to_change}
+use Rattle.writing.specs.Forms.{Wanted}
 use Rattle.layout.specs.declared.items.Behind.{Behind}
-use Rattle.layout.specs.Plans.{Wanted, least, total}
+use Rattle.layout.specs.Plans.{least, total}
 use Rattle.layout.specs.Anew.{entry_of, Stands}
 use Rattle.layout.proofs.Anews.{total-same}
 use Rattle.effects.specs.Lists.{with_object, changed, dropped}

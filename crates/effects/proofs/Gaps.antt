@@ -5,8 +5,9 @@ use Rattle.std.specs.List.{AllByRecursion}
 use Rattle.sets.specs.Readings.{Memory, Entry, Reading, reads}
 use Rattle.rivals.specs.Memories.{Shaped, Rival, Gap}
 use Rattle.rivals.specs.Relaid.{list_around, Distinct}
+use Rattle.writing.specs.Forms.{Wanted}
 use Rattle.layout.specs.declared.items.Behind.{Behind}
-use Rattle.layout.specs.Plans.{Wanted, total, nth}
+use Rattle.layout.specs.Plans.{total, nth}
 use Rattle.layout.specs.Anew.{entry_of, Stands}
 use Rattle.layout.proofs.Anews.{laid-reads}
 use Rattle.effects.specs.Bytes.{Given}

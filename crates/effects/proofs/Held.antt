@@ -21,7 +21,8 @@ use Rattle.rivals.proofs.Anew.{reads_distinct, place_in-gap}
 use Rattle.rivals.proofs.Bridges.{faultless}
 use Rattle.rivals.proofs.Fits.{entries_fit}
 use Rattle.rivals.proofs.Promised.{list-with}
-use Rattle.layout.specs.Plans.{Wanted, nth}
+use Rattle.writing.specs.Forms.{Wanted}
+use Rattle.layout.specs.Plans.{nth}
 use Rattle.layout.specs.Anew.{entry_of}
 use Rattle.effects.specs.Bytes.{Given}
 use Rattle.effects.specs.Held.{kind_of, wanted_of, items_of, ItemsHeld, ItemsOnly, ItemNamed}

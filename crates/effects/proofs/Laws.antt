@@ -10,7 +10,8 @@ use Rattle.sets.specs.Readings.{Memory, Entry, Reading, found, entry}
 use Rattle.rivals.specs.Promises.{Lies, gap_before, gap_behind}
 use Rattle.rivals.proofs.Anew.{place_in-gap}
 use Rattle.rivals.proofs.Holds.{shaped-rival}
-use Rattle.layout.specs.Plans.{Wanted, nth}
+use Rattle.writing.specs.Forms.{Wanted}
+use Rattle.layout.specs.Plans.{nth}
 use Rattle.layout.specs.Anew.{entry_of, Stands}
 use Rattle.effects.specs.Gaps.{Items, OpenSet}
 use Rattle.effects.specs.Blocks.{end_first, end_blocks, block_bytes}

@@ -18,9 +18,11 @@ use Rattle.rivals.specs.Memories.{Shaped, Gap}
 use Rattle.rivals.specs.Relaid.{relaid}
 use Rattle.rivals.proofs.Blocks.{run_of, gap-clear}
 use Rattle.writing.proofs.Formed.{form_writable}
+use Rattle.writing.specs.Forms.{Wanted, Fit, formed}
+use Rattle.rivals.specs.Rooms.{to_block, whole}
 use Rattle.layout.specs.declared.items.Behind.{Behind}
 use Rattle.layout.specs.declared.items.Behind.TheVariants.{Locked}
-use Rattle.layout.specs.Plans.{Wanted, Fit, formed, least, total, run, to_block, whole, nothing, nth}
+use Rattle.layout.specs.Plans.{least, total, run, nothing, nth}
 use Rattle.layout.specs.Lays.{laid_gap}
 use Rattle.layout.specs.Anew.{OnBlocks}
 use Rattle.layout.proofs.Anews.{gap-long}
@@ -93,7 +95,7 @@ module _ (m : Memory) (shaped : Shaped m) (p n : ℕ) (gap : Gap m p n) (behind 
       let bs : List ℕ = (with_readied m p n behind ws k).bytes in
       let reads-it : next unpacked (drop (readied_at m p ws k) bs) ≡ tile (holds on.set) = all-has (λ g. next unpacked (drop g.at bs) ≡ tile (holds g.set)) (found bs) (record { at = readied_at m p ws k; set = on.set }) (found-next bs) is_there in
       let one : parse (encode s ++ rest) ≡ tile (holds on.set) = ap parse (sym bytes_there) ∙ next-parse unpacked (drop (readied_at m p ws k) bs) (holds on.set) reads-it in
-      let two : parse (encode s ++ rest) ≡ tile (holds s) = comes_back s rest (form_writable (to_block m.size (least (nth ws k))) w.identifier w.kind w.object fit.identifier fit.object (omega arith)) in
+      let two : parse (encode s ++ rest) ≡ tile (holds s) = comes_back s rest (form_writable (to_block m.size (least (nth ws k))) w fit (omega arith)) in
       cc (one, two)
 
   bytes-are : size on.set ≡ long

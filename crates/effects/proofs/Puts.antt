@@ -14,8 +14,9 @@ use Rattle.rivals.specs.Rooms as rooms
 use Rattle.rivals.proofs.Anew.{reads_distinct, place-at-end, free-after}
 use Rattle.rivals.proofs.Holds.{put_wants}
 use Rattle.rivals.proofs.Promised.{last-is-rest, no_room-to-put, most-free}
+use Rattle.writing.specs.Forms.{Wanted, Fit, formed}
 use Rattle.layout.specs.declared.items.Behind.TheVariants.{End}
-use Rattle.layout.specs.Plans.{Wanted, Fit, formed, total, run}
+use Rattle.layout.specs.Plans.{total, run}
 use Rattle.layout.specs.Lays.{laid_gap}
 use Rattle.layout.specs.Anew.{entry_of}
 use Rattle.layout.proofs.Anews.{total-same, run_layable, gap-long, zeros-end}

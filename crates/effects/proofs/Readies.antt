@@ -10,8 +10,9 @@ use Rattle.rivals.specs.Memories.{Alone}
 use Rattle.rivals.specs.Relaid.{list_around, Distinct}
 use Rattle.rivals.proofs.Anew.{reads_distinct}
 use Rattle.rivals.proofs.Bridges.{faultless}
+use Rattle.writing.specs.Forms.{Wanted}
 use Rattle.layout.specs.declared.items.Behind.{Behind}
-use Rattle.layout.specs.Plans.{Wanted, nth}
+use Rattle.layout.specs.Plans.{nth}
 use Rattle.layout.specs.Lays.{readied_gap}
 use Rattle.layout.specs.Anew.{entry_of, Stands, NowReads, OnBlocks}
 use Rattle.layout.proofs.Alone.{ready_reads, ready_rivals}

@@ -2,8 +2,8 @@
 use Rattle.std.specs.Prelude.{ℕ, ◌<◌, List, length}
 use Rattle.std.specs.Int.Digits.{AllBelowBase}
 use Rattle.std.specs.List.{AllByRecursion}
+use Rattle.writing.specs.Forms.{Wanted, Fit}
 use Rattle.layout.specs.declared.items.Behind.{Behind}
-use Rattle.layout.specs.Plans.{Wanted, Fit}
 use Rattle.layout.specs.Lays.{laid_gap, readied_gap}
 
 -- an item that a set can hold, of bytes

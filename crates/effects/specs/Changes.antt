@@ -6,8 +6,9 @@ use Rattle.sets.specs.Scans.{Found}
 use Rattle.sets.specs.Readings.{Memory, Entry, Reading, identified, entry, reads}
 use Rattle.rivals.specs.Memories.{Shaped}
 use Rattle.rivals.specs.Promises.{Lies, gap_before, gap_behind}
+use Rattle.writing.specs.Forms.{Wanted}
 use Rattle.layout.specs.declared.items.Behind.{Behind}
-use Rattle.layout.specs.Plans.{Wanted, total, nth}
+use Rattle.layout.specs.Plans.{total, nth}
 use Rattle.layout.specs.Anew.{entry_of, Stands}
 use Rattle.effects.specs.Lists.{changed, dropped}
 use Rattle.effects.specs.Bytes.{Given}

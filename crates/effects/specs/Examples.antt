@@ -4,7 +4,7 @@ use Rattle.codes.specs.declared.kind.Kind.TheVariants.{Application}
 use Rattle.sets.specs.Sets.{bare}
 use Rattle.sets.specs.Scans.{Found}
 use Rattle.rivals.specs.Examples.{between, with_three, six}
-use Rattle.layout.specs.Plans.{Wanted}
+use Rattle.writing.specs.Forms.{Wanted}
 use Rattle.effects.specs.Gaps.{OpenSet}
 use Rattle.effects.specs.Seals.{locking}
 use Rattle.effects.specs.Made.{set_room, change_wants, change_made, drop_made, ready_wants, ready_made, ready_first, ready_blocks}

@@ -5,8 +5,8 @@ use Rattle.sets.specs.Scans.{Found, free}
 use Rattle.sets.specs.Readings.{Memory, Entry, Reading, found, sealed, reads}
 use Rattle.rivals.specs.Memories.{Shaped, Rival, Gap, gap_entries, seals}
 use Rattle.rivals.specs.Relaid.{relaid}
+use Rattle.writing.specs.Forms.{Wanted}
 use Rattle.layout.specs.declared.items.Behind.{Behind}
-use Rattle.layout.specs.Plans.{Wanted}
 use Rattle.layout.specs.Lays.{laid_gap}
 use Rattle.layout.specs.Anew.{entry_of}
 use Rattle.effects.specs.Bytes.{Given}

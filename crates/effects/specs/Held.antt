@@ -6,7 +6,8 @@ use Rattle.sets.specs.Scans.{Found}
 use Rattle.sets.specs.Readings.{Memory, Entry, Reading, identified, reads}
 use Rattle.rivals.specs.Memories.{Shaped, Gap, gap_entries}
 use Rattle.rivals.specs.Promises.{Lies}
-use Rattle.layout.specs.Plans.{Wanted, nth}
+use Rattle.writing.specs.Forms.{Wanted}
+use Rattle.layout.specs.Plans.{nth}
 use Rattle.layout.specs.Anew.{entry_of}
 use Rattle.effects.specs.Gaps.{Items}
 use Rattle.effects.specs.Changes.{ItemAt}

@@ -3,7 +3,7 @@ use Rattle.std.specs.Prelude.{◌≡◌, ℕ, ◌-◌, ◌*◌, ◌<◌, ◌≤�
 use Rattle.sets.specs.Scans.{Found}
 use Rattle.sets.specs.Readings.{Memory, Entry, Reading, identified, reads}
 use Rattle.rivals.specs.Memories.{Shaped, Rival, Alone}
-use Rattle.layout.specs.Plans.{Wanted}
+use Rattle.writing.specs.Forms.{Wanted}
 use Rattle.layout.specs.Anew.{entry_of}
 use Rattle.effects.specs.Lists.{Absent, put_list, dropped, sealed_list}
 use Rattle.effects.specs.Bytes.{Given}

@@ -3,9 +3,10 @@ use Rattle.std.specs.Prelude.{ℕ, suc, ◌*◌, cond, List, [], ◌∷◌}
 use Rattle.std.specs.Str.{bytes_eq}
 use Rattle.sets.specs.Scans.{Found}
 use Rattle.sets.specs.Readings.{Memory, identified}
+use Rattle.writing.specs.Forms.{Wanted}
 use Rattle.layout.specs.declared.items.Behind.{Behind}
 use Rattle.layout.specs.declared.items.Behind.TheVariants.{End}
-use Rattle.layout.specs.Plans.{Wanted, total}
+use Rattle.layout.specs.Plans.{total}
 use Rattle.effects.specs.Gaps.{with_items}
 use Rattle.effects.specs.Blocks.{end_first, end_blocks, gap_first, gap_blocks, block_of, behind_of}
 use Rattle.effects.specs.Held.{items_of}

@@ -1,8 +1,9 @@
 -- A put: one item more, behind those of the gap that runs to the end.
 use Rattle.std.specs.Prelude.{◌≡◌, ℕ, ◌+◌, ◌-◌, ◌*◌, ◌<◌, ◌≤◌, List, [], ◌∷◌, ◌++◌, length}
 use Rattle.sets.specs.Readings.{Memory, Entry, Reading}
+use Rattle.writing.specs.Forms.{Wanted}
 use Rattle.layout.specs.declared.items.Behind.TheVariants.{End}
-use Rattle.layout.specs.Plans.{Wanted, total}
+use Rattle.layout.specs.Plans.{total}
 use Rattle.layout.specs.Anew.{entry_of}
 use Rattle.effects.specs.Lists.{Absent, put_list}
 use Rattle.effects.specs.Bytes.{Given}

@@ -4,8 +4,10 @@ use Rattle.sets.specs.Scans.{Found}
 use Rattle.sets.specs.Readings.{Memory, Entry, Reading, identified}
 use Rattle.rivals.specs.Memories.{Rival, Alone}
 use Rattle.rivals.specs.Relaid.{relaid}
+use Rattle.writing.specs.Forms.{Wanted}
+use Rattle.rivals.specs.Rooms.{whole}
 use Rattle.layout.specs.declared.items.Behind.{Behind}
-use Rattle.layout.specs.Plans.{Wanted, least, total, whole, ready_need, nth}
+use Rattle.layout.specs.Plans.{least, total, ready_need, nth}
 use Rattle.layout.specs.Lays.{readied_gap}
 use Rattle.layout.specs.Anew.{Stands, OnBlocks}
 use Rattle.effects.specs.Gaps.{ReadsAs, Becomes}

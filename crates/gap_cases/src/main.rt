@@ -2,7 +2,7 @@
 #![tactic(auto)]
 
 use codes::Kind;
-use layout::{Behind, Item, LayoutFault, lay_out, lay_ready};
+use layout::{Behind, Item, lay_out, lay_ready};
 use std::io;
 
 // What a gap holds before it is laid out; a refusal has to leave it.
@@ -23,43 +23,26 @@ fn lay(
     items: &[Item],
     behind: Behind,
 ) -> io::Result<()> {
-    match lay_out(gap, items, behind) {
-        Ok(()) => show(rt, name, gap),
-        Err(LayoutFault::TooSmall) => {
-            print!(rt; "too small, ")?;
-            show(rt, name, gap)
-        }
-        Err(LayoutFault::Unfit(i)) => {
-            print!(rt; "item {i} unfit, ")?;
-            show(rt, name, gap)
-        }
-        Err(LayoutFault::NoPlace) => {
-            print!(rt; "no place, ")?;
-            show(rt, name, gap)
-        }
+    if let Err(fault) = lay_out(gap, items, behind) {
+        print!(rt; "{fault}, ")?;
+    }
+    show(rt, name, gap)
+}
+
+fn compact<'a>(identifier: &'a [u8], object: &'a [u8]) -> Item<'a> {
+    Item {
+        identifier,
+        kind: Kind::Compact,
+        object,
     }
 }
 
 // A gap of n bytes at blocks of four: an item number and a name, one of them readied.
 fn readied(rt: &HostRuntime, gap: &mut [u8], named: usize, behind: Behind) -> io::Result<()> {
-    let number = Item {
-        identifier: &[1],
-        kind: Kind::Compact,
-        object: b"12345678",
-    };
-    let name = Item {
-        identifier: &[5],
-        kind: Kind::Compact,
-        object: b"AB-12",
-    };
-    match lay_ready(gap, 4, &[number, name], named, behind) {
-        Ok(r) => {
-            let (at, bytes) = (r.at, r.bytes);
-            print!(rt; "at {at} bytes {bytes}, ")?;
-        }
-        Err(LayoutFault::TooSmall) => print!(rt; "too small, ")?,
-        Err(LayoutFault::Unfit(_)) => print!(rt; "unfit, ")?,
-        Err(LayoutFault::NoPlace) => print!(rt; "no place, ")?,
+    let items = [compact(&[1], b"12345678"), compact(&[5], b"AB-12")];
+    match lay_ready(gap, 4, &items, named, behind) {
+        Ok(r) => print!(rt; "at {} bytes {}, ", r.at, r.bytes)?,
+        Err(fault) => print!(rt; "{fault}, ")?,
     }
     show(rt, "readied", gap)
 }
@@ -77,28 +60,15 @@ fn of_eight(rt: &HostRuntime, object: &[u8]) -> io::Result<()> {
 
 fn two(rt: &HostRuntime, behind: Behind) -> io::Result<()> {
     let mut gap = [OLD; 20];
-    let number = Item {
-        identifier: &[1],
-        kind: Kind::Compact,
-        object: b"12345678",
-    };
-    let name = Item {
-        identifier: &[0x81, 0x00],
-        kind: Kind::Compact,
-        object: b"AB-12",
-    };
-    lay(rt, "twenty", &mut gap, &[number, name], behind)
+    let items = [compact(&[1], b"12345678"), compact(&[0x81, 0x00], b"AB-12")];
+    lay(rt, "twenty", &mut gap, &items, behind)
 }
 
 fn others(rt: &HostRuntime) -> io::Result<()> {
     let mut gap = [OLD; 4];
     lay(rt, "empty before a lock", &mut gap, &[], Behind::Locked)?;
     lay(rt, "empty at the end", &mut gap, &[], Behind::End)?;
-    let bad = Item {
-        identifier: &[0x80],
-        kind: Kind::Compact,
-        object: b"7",
-    };
+    let bad = compact(&[0x80], b"7");
     lay(rt, "bad identifier", &mut gap, &[bad], Behind::End)?;
     let mut long = [OLD; 262];
     let one = Item {

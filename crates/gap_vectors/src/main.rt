@@ -5,61 +5,40 @@
 // was refused for want of room. Bytes are hexadecimal, `-` is none.
 #![tactic(auto)]
 
-use anyhow::{Context, anyhow};
+use anyhow::{anyhow, bail};
 use codes::Kind;
 use layout::{Behind, Item, LayoutFault, lay_out, lay_ready};
 use std::alloc::Global;
 use std::io::{BufRead, BufReader};
+use vectors::bytes;
 
-fn digit(b: u8) -> Option<u8> {
-    match b {
-        b'0'..=b'9' => Some(b - b'0'),
-        b'A'..=b'F' => Some(b - b'A' + 10),
-        _ => None,
-    }
+// The words of an item, as bytes that a layout is lent.
+#[derive(Drop)]
+struct Wanted {
+    identifier: Vec<u8>,
+    kind: Kind,
+    object: Vec<u8>,
 }
 
-fn bytes(heap: Global, text: &str) -> anyhow::Result<Vec<u8>> {
-    let mut out = Vec::new(heap);
-    if text == "-" {
-        return Ok(out);
+impl Wanted {
+    fn read(heap: Global, [identifier, kind, object]: [&str; 3]) -> anyhow::Result<Self> {
+        Ok(Wanted {
+            identifier: bytes(heap, identifier)?,
+            kind: Kind::try_from(kind.parse::<u8>()?)?,
+            object: bytes(heap, object)?,
+        })
     }
-    let mut high = None;
-    for b in text.bytes() {
-        let low = digit(b).context("not hexadecimal")?;
-        match high {
-            None => high = Some(low),
-            Some(h) => {
-                out.push(((u32::from(h) * 16 + u32::from(low)) & 0xff) as u8)?;
-                high = None;
-            }
+
+    fn item(&self) -> Item<'_> {
+        Item {
+            identifier: self.identifier.as_slice(),
+            kind: self.kind,
+            object: self.object.as_slice(),
         }
     }
-    Ok(out)
 }
 
-// One of the words of every third, as bytes.
-fn column(heap: Global, words: &[&str], first: usize) -> anyhow::Result<Vec<Vec<u8>>> {
-    let mut out = Vec::new(heap);
-    for (i, word) in words.iter().enumerate() {
-        if i % 3 == first {
-            out.push(bytes(heap, word)?)?;
-        }
-    }
-    Ok(out)
-}
-
-fn kinds(heap: Global, words: &[&str]) -> anyhow::Result<Vec<Kind>> {
-    let mut out = Vec::new(heap);
-    for (i, word) in words.iter().enumerate() {
-        if i % 3 == 1 {
-            out.push(Kind::from_number(word.parse::<u8>()?).context("no such kind")?)?;
-        }
-    }
-    Ok(out)
-}
-
-fn behind(word: &str) -> anyhow::Result<Behind> {
+fn behind_of(word: &str) -> anyhow::Result<Behind> {
     match word {
         "locked" => Ok(Behind::Locked),
         "end" => Ok(Behind::End),
@@ -75,56 +54,41 @@ fn lay(
     items: &[Item],
     behind: Behind,
 ) -> anyhow::Result<bool> {
-    let fault = if ready == "-" {
-        lay_out(gap, items, behind).err()
-    } else {
-        lay_ready(
-            gap,
-            block.parse::<usize>()?,
-            items,
-            ready.parse::<usize>()?,
-            behind,
-        )
-        .err()
+    let answer = match ready {
+        "-" => lay_out(gap, items, behind),
+        _ => lay_ready(gap, block.parse()?, items, ready.parse()?, behind).map(|_| ()),
     };
-    match fault {
-        None => Ok(true),
-        Some(LayoutFault::TooSmall) => Ok(false),
-        Some(_) => Err(anyhow!("an item or a block that no layout takes")),
+    match answer {
+        Ok(()) => Ok(true),
+        Err(LayoutFault::TooSmall) => Ok(false),
+        Err(_) => Err(anyhow!("an item or a block that no layout takes")),
     }
 }
 
 // Whether a case is laid as the memory shows, or too small with the gap as before.
 fn agrees(heap: Global, words: &[&str]) -> anyhow::Result<bool> {
-    if words.len() < 6 || words.len() % 3 != 0 {
-        return Err(anyhow!("a case has six words and three for each item"));
+    let [_, behind, block, ready, before, after, rest @ ..] = words else {
+        bail!("a case has six words");
+    };
+    let (thirds, []) = rest.as_chunks::<3>() else {
+        bail!("an item has three words");
+    };
+    let mut wanted = Vec::new(heap);
+    for words in thirds {
+        wanted.push(Wanted::read(heap, *words)?)?;
     }
-    let ids = column(heap, &words[6..words.len()], 0)?;
-    let kinds = kinds(heap, &words[6..words.len()])?;
-    let objects = column(heap, &words[6..words.len()], 2)?;
-    let mut items = Vec::new(heap);
-    for ((id, kind), object) in ids.iter().zip(kinds.iter()).zip(objects.iter()) {
-        items.push(Item {
-            identifier: id.as_slice(),
-            kind: *kind,
-            object: object.as_slice(),
-        })?;
-    }
-    let mut gap = bytes(heap, words[4])?;
+    let items: Vec<Item> = wanted.iter().map(|w| w.item()).collect(heap)?;
+    let mut gap = bytes(heap, before)?;
     let laid = lay(
         gap.as_mut_slice(),
-        words[2],
-        words[3],
+        block,
+        ready,
         items.as_slice(),
-        behind(words[1])?,
+        behind_of(behind)?,
     )?;
-    let wanted = if words[5] == "small" {
-        words[4]
-    } else {
-        words[5]
-    };
-    let wanted = bytes(heap, wanted)?;
-    Ok(laid == (words[5] != "small") && gap.as_slice() == wanted.as_slice())
+    let small = *after == "small";
+    let left = bytes(heap, if small { before } else { after })?;
+    Ok(laid != small && gap == left)
 }
 
 fn compare(rt: &HostRuntime) -> anyhow::Result<()> {
@@ -132,15 +96,14 @@ fn compare(rt: &HostRuntime) -> anyhow::Result<()> {
     let mut small: u64 = 0;
     for line in BufReader::new(rt.alloc(), rt.stdin())?.lines(rt.alloc()) {
         let line = line?;
-        let words: Vec<&str> = line.as_str().split(' ').collect(rt.alloc())?;
+        let words: Vec<&str> = line.split(' ').collect(rt.alloc())?;
         if !agrees(rt.alloc(), words.as_slice())? {
             println!(rt; "differs: {line}")?;
-            return Err(anyhow!("a case differs"));
+            bail!("a case differs");
         }
-        if words.get(5).copied() == Some("small") {
-            small = small.saturating_add(1);
-        } else {
-            laid = laid.saturating_add(1);
+        match words.get(5).copied() {
+            Some("small") => small = small.saturating_add(1),
+            _ => laid = laid.saturating_add(1),
         }
     }
     println!(rt; "laid {laid} too small {small} differ 0")?;

@@ -1,5 +1,5 @@
 // The driver that shows what a pile of layers shows of the driver below it.
-ghost use Rattle.std.specs.Prelude.{◌≡◌};
+ghost use Rattle.std.specs.Prelude.{◌≡◌, is_some};
 ghost use Rattle.layers.specs.Piles.{turn_if, pile_tag, brought_tag};
 ghost use Rattle.layers.specs.Shows.{perhaps, shown};
 
@@ -28,16 +28,18 @@ impl Pile {
         ensures value { shown D.Driver.tag result ≡ brought_tag self (D.Driver.tag lower) }
     {
         let window = Window::over(lower, self.from, self.most);
-        turned_if(self.bits, Bits, turned_if(self.bytes, Bytes, window))
+        let bytes = self.bytes.then_some(Bytes);
+        let bits = self.bits.then_some(Bits);
+        turned(bits, turned(bytes, window))
     }
 }
 
-fn turned_if<T: Turn + Copy, D: Driver>(on: bool, turn: T, lower: D) -> Perhaps<T, D>
-    ensures value { perhaps T.Turn.turned D.Driver.tag result ≡ turn_if on T.Turn.turned (D.Driver.tag lower) }
+// The layer that turns each block of `lower`, if there is one.
+fn turned<T: Turn, D: Driver>(turn: Option<T>, lower: D) -> Perhaps<T, D>
+    ensures value { perhaps T.Turn.turned D.Driver.tag result ≡ turn_if (is_some turn) T.Turn.turned (D.Driver.tag lower) }
 {
-    if on {
-        Either::Right(over(turn, lower))
-    } else {
-        Either::Left(lower)
+    match turn {
+        Some(turn) => Either::Right(over(turn, lower)),
+        None => Either::Left(lower),
     }
 }

@@ -1,11 +1,11 @@
 // A pile of layers, brought to one window, one byte order and one bit order.
 ghost use Rattle.std.specs.Prelude.{◌≡◌, ◌≤◌};
 ghost use Rattle.tags.specs.Tags.{Tag, Shaped};
-ghost use Rattle.drivers.specs.Layers.{turn_tag, window_tag, by_bytes, by_bits};
+ghost use Rattle.drivers.specs.Layers.{window_tag};
 ghost use Rattle.layers.specs.Piles.{layer_tag, pile_tag, brought_tag};
 
 /// A layer that is laid on a pile.
-#[derive(Clone, Copy)]
+#[derive(Clone, Copy, Debug, PartialEq, Eq)]
 pub enum Added {
     /// At most `most` blocks, from block `from` on.
     Window { from: usize, most: usize },
@@ -16,7 +16,7 @@ pub enum Added {
 }
 
 /// At most `most` blocks from block `from` on, then the byte order where `bytes`, then the bit order where `bits`.
-#[derive(Clone, Copy)]
+#[derive(Clone, Copy, Debug, PartialEq, Eq)]
 pub struct Pile {
     pub from: usize,
     pub most: usize,
@@ -39,18 +39,26 @@ impl Pile {
         Pile::window(0, usize::MAX)
     }
 
-    /// The pile that shows the same as this one with `added` laid on it.
+    /// The pile that shows the same as this one with `added` laid on it. An order laid twice is none, and where it lies
+    /// among the other layers is all one.
     pub fn with(self, added: Added) -> Pile
         ensures value { (t : Tag) → Shaped t → brought_tag result t ≡ layer_tag added (brought_tag self t) }
     {
         match added {
             Added::Window { from, most } => self.with_window(from, most),
-            Added::Bytes => self.with_bytes(),
-            Added::Bits => self.with_bits(),
+            Added::Bytes => Pile {
+                bytes: !self.bytes,
+                ..self
+            },
+            Added::Bits => Pile {
+                bits: !self.bits,
+                ..self
+            },
         }
     }
 
     // A window alone, and of all blocks where it has room for the 256 that a tag has at most.
+    #[tactic(auto, using(drivers::proofs::Windowing::window_all))]
     fn window(from: usize, most: usize) -> Pile
         ensures same { from ≡ 0 → 256 ≤ most → (t : Tag) → Shaped t → brought_tag result t ≡ t }
     {
@@ -69,25 +77,6 @@ impl Pile {
         Pile {
             from: self.from.saturating_add(from),
             most: most.min(self.most.saturating_sub(from)),
-            ..self
-        }
-    }
-
-    // An order laid twice is none, and where it lies among the other layers is all one.
-    fn with_bytes(self) -> Pile
-        ensures value { (t : Tag) → brought_tag result t ≡ turn_tag by_bytes (brought_tag self t) }
-    {
-        Pile {
-            bytes: !self.bytes,
-            ..self
-        }
-    }
-
-    fn with_bits(self) -> Pile
-        ensures value { (t : Tag) → brought_tag result t ≡ turn_tag by_bits (brought_tag self t) }
-    {
-        Pile {
-            bits: !self.bits,
             ..self
         }
     }

@@ -4,6 +4,7 @@ use mathlib.Core.Path.{transport}
 use native.Mathlib.Nat.{mul-add-mod_self_right, mod_self, mod-add-mod}
 use Rattle.std.specs.List.{AllByRecursion}
 use Rattle.std.proofs.lemmas.Bool.{cases_lt, cases_eq}
+use Rattle.std.proofs.lemmas.List.{map-append}
 use Rattle.std.proofs.ByRecursion.{All-append, All-take, All-drop, All-get_or}
 use Rattle.sets.specs.Sets.{Set, Tile, filler, holds, size}
 use Rattle.sets.specs.Scans.{placed}
@@ -18,9 +19,11 @@ use Rattle.rivals.specs.Rooms as rooms
 use Rattle.rivals.specs.Promises.{gap_before, gap_behind}
 use Rattle.rivals.proofs.Anew.{gap-laid_anew}
 use Rattle.rivals.proofs.Promised.{readied_needs}
+use Rattle.writing.specs.Forms.{Wanted, Fit, formed}
+use Rattle.rivals.specs.Rooms.{to_block, whole}
 use Rattle.layout.specs.declared.items.Behind.{Behind}
 use Rattle.layout.specs.declared.items.Behind.TheVariants.{Locked, End}
-use Rattle.layout.specs.Plans.{Wanted, Fit, formed, least, total, run, locked_plan, to_block, whole, ready_need, nothing, nth}
+use Rattle.layout.specs.Plans.{least, total, run, locked_plan, ready_need, nothing, nth}
 use Rattle.layout.specs.Lays.{laid_gap, readied_gap}
 use Rattle.layout.specs.Anew.{entry_of, Stands, OnBlocks, ReadyReads, ReadyRivals}
 use Rattle.layout.proofs.Runs.{laid-append, more-extra}
@@ -32,10 +35,6 @@ around : (k : ℕ) (ws : List Wanted) → k < length ws → take k ws ++ (nth ws
 around k [] h = absurd (omega arith)
 around zero (w ∷ ws) h = refl
 around (suc k) (w ∷ ws) h = ap (λ l. w ∷ l) (around k ws (omega arith))
-
-map-append : (xs ys : List Wanted) → map entry_of (xs ++ ys) ≡ map entry_of xs ++ map entry_of ys
-map-append [] ys = refl
-map-append (x ∷ xs) ys = ap (λ l. entry_of x ∷ l) (map-append xs ys)
 
 -- bytes on whole blocks
 to_block-lt : (b n : ℕ) → 0 < b → to_block b n < b
@@ -106,7 +105,7 @@ module _ (b : ℕ) (pos : 0 < b) (small : b ≤ 256) (ws : List Wanted) (k g : �
   three_say =
       says-append front (mid ++ last)
       ∙ (λ j. plan_says (take k ws) at fit-front j ++ (form-told (to_block b (least (nth ws k))) (nth ws k) fit-w j ∷ tiles_say behind (drop (suc k) ws) (g - (at + bytes)) fit-last j))
-      ∙ sym (map-append (take k ws) (nth ws k ∷ drop (suc k) ws)) ∙ ap (map entry_of) (around k ws in')
+      ∙ sym (map-append entry_of (take k ws) (nth ws k ∷ drop (suc k) ws)) ∙ ap (map entry_of) (around k ws in')
 
   pub front-span : span front ≡ at
   front-span = sym (laid-tiles unpacked front (plan_layable (take k ws) at fit-front)).1 ∙ gap-long Locked (take k ws) at fit-front (omega arith)

@@ -16,9 +16,10 @@ use Rattle.rivals.specs.Relaid.{relaid, list_around, Distinct, open_entries, Sui
 use Rattle.rivals.proofs.Fits.{form-says}
 use Rattle.rivals.proofs.Anew.{gap-laid_anew}
 use Rattle.rivals.proofs.Promised.{room}
+use Rattle.writing.specs.Forms.{Wanted, Fit, formed}
 use Rattle.layout.specs.declared.items.Behind.{Behind}
 use Rattle.layout.specs.declared.items.Behind.TheVariants.{Locked, End}
-use Rattle.layout.specs.Plans.{Wanted, Fit, formed, least, total, run, taken, locked_plan}
+use Rattle.layout.specs.Plans.{least, total, run, taken, locked_plan}
 use Rattle.layout.specs.Lays.{laid_gap}
 use Rattle.layout.specs.Anew.{entry_of, Stands, NowReads, LaidReads, RivalsNeed}
 use Rattle.layout.proofs.Runs.{laid-append, laid_fillers, taken-few, taken-bytes, plain-bytes}
@@ -28,7 +29,7 @@ pub entry-fit : (w : Wanted) → Fit w → rooms.Fit (entry_of w)
 entry-fit w f = record { identifier = f.identifier; kind = kind-below w.kind; some = f.object.0; few = f.object.1 }
 
 form_layable : (extra : ℕ) (w : Wanted) → Fit w → extra ≤ 256 → Layable unpacked (holds (formed extra w))
-form_layable extra w f few = (form_writable extra w.identifier w.kind w.object f.identifier f.object few, (w.object, (form-says (entry_of w) extra (entry-fit w f)).0))
+form_layable extra w f few = (form_writable extra w f few, (w.object, (form-says (entry_of w) extra (entry-fit w f)).0))
 
 pub form-told : (extra : ℕ) (w : Wanted) → Fit w → rooms.told (formed extra w) false ≡ entry_of w
 form-told extra w f = (form-says (entry_of w) extra (entry-fit w f)).1

@@ -1,30 +1,29 @@
 -- A readied set in its gap.
-use Rattle.std.proofs.Common.{◌≡◌, ℕ, zero, suc, ◌+◌, ◌-◌, ◌<◌, ◌≤◌, List, [], ◌∷◌, ◌++◌, map, length, take, drop, Err, sym, refl, ap, ◌∙◌, subst, append-nil, add-one, arith, length-drop}
-use Rattle.std.proofs.lemmas.List.{length-map, take_all, drop_all}
+use Rattle.std.proofs.Common.{◌≡◌, ℕ, zero, suc, ◌+◌, ◌-◌, ◌<◌, ◌≤◌, List, [], ◌∷◌, ◌++◌, map, length, take, drop, Ok, Err, Result, IsOk, refl, ap, ◌∙◌, add-one, arith, length-drop}
+use Rattle.std.proofs.lemmas.List.{length-map, take_all}
 use Rattle.std.specs.List.{AllByRecursion}
 use Rattle.std.proofs.ByRecursion.{All-get_or, All-take, All-drop}
-use Rattle.writing.specs.Puts.{Puts}
-use Rattle.writing.proofs.Puttings.{puts_then}
-use Rattle.layout.specs.declared.items.Item.{Item}
+use Rattle.writing.specs.declared.items.Item.{Item}
+use Rattle.writing.specs.Forms.{Wanted, Fit, wanted}
 use Rattle.layout.specs.declared.items.Behind.{Behind}
+use Rattle.layout.specs.declared.items.Behind.TheVariants.{Locked}
 use Rattle.layout.specs.declared.items.LayoutFault.{LayoutFault}
 use Rattle.layout.specs.declared.items.LayoutFault.TheVariants.{Unfit, TooSmall, NoPlace}
-use Rattle.layout.specs.Plans.{Wanted, Fit, least, total, nothing, nth, ready_need}
-use Rattle.layout.specs.Lays.{wanted, FirstUnfit, Lays, Totals, Readies}
+use Rattle.layout.specs.declared.measured.Measured.{Measured}
+use Rattle.layout.specs.Plans.{least, total, nothing, nth, ready_need}
+use Rattle.layout.specs.Lays.{laid_gap, three_parts, FirstUnfit, Readies}
+use Rattle.layout.specs.Measures.{Measures}
+use Rattle.layout.proofs.Totals.{total-take}
 
 no_unfit : (ws : List Wanted) (i : ℕ) → AllByRecursion Fit ws → FirstUnfit ws i → ⊥
 no_unfit ws i all h = h.unfit nothing (All-get_or Fit ws i nothing h.inside all)
 
--- what was measured is measured again, and laid
-pub never_total : (ws : List Wanted) (room : ℕ) (f : LayoutFault) → AllByRecursion Fit ws → total ws ≤ room → Totals ws room (Err f) → ⊥
-never_total ws room (Unfit i) all le h = no_unfit ws i all h
-never_total ws room TooSmall all le h = omega arith
-never_total ws room NoPlace all le h = h
-
-pub never_laid : (behind : Behind) (ws : List Wanted) (old new : List ℕ) (f : LayoutFault) → AllByRecursion Fit ws → total ws ≤ length old → Lays behind ws old new (Err f) → ⊥
-never_laid behind ws old new (Unfit i) all le h = no_unfit ws i all h.0
-never_laid behind ws old new TooSmall all le h = omega (arith, h.0)
-never_laid behind ws old new NoPlace all le h = h
+-- what was measured is measured again
+pub measured_again : (items : List Item) (room : ℕ) (r : Result Measured LayoutFault) → AllByRecursion Fit (map wanted items) → total (map wanted items) ≤ room → Measures items room r → IsOk r
+measured_again items room (Ok m) all le h = refl
+measured_again items room (Err (Unfit i)) all le h = absurd (no_unfit (map wanted items) i all h)
+measured_again items room (Err TooSmall) all le h = absurd (omega arith)
+measured_again items room (Err NoPlace) all le h = absurd h
 
 -- parts of the items
 pub map-take : (n : ℕ) (items : List Item) → map wanted (take n items) ≡ take n (map wanted items)
@@ -52,55 +51,75 @@ total-parts n [] h = absurd (omega arith)
 total-parts zero (w ∷ ws) h = omega arith
 total-parts (suc n) (w ∷ ws) h = omega (arith, total-parts n ws (omega arith))
 
+pub map-part : (from to : ℕ) (items : List Item) → map wanted (take (to - from) (drop from items)) ≡ take (to - from) (drop from (map wanted items))
+map-part from to items = map-take (to - from) (drop from items) ∙ ap (take (to - from)) (map-drop from items)
+
+pub part-fit : (from k : ℕ) (ws : List Wanted) → AllByRecursion Fit ws → AllByRecursion Fit (take k (drop from ws))
+part-fit from k ws all = All-take Fit k (drop from ws) (All-drop Fit from ws all)
+
+total-drop : (k : ℕ) (ws : List Wanted) → total (drop k ws) ≤ total ws
+unfolding total
+total-drop zero ws = omega arith
+total-drop (suc k) [] = omega arith
+total-drop (suc k) (w ∷ ws) = omega (arith, total-drop k ws)
+
+pub part-total : (from k : ℕ) (ws : List Wanted) → total (take k (drop from ws)) ≤ total ws
+part-total from k ws = omega (arith, total-take k (drop from ws), total-drop from ws)
+
+-- the items before the readied one, that one, and those behind it
 module _ (items : List Item) (n : ℕ) (in' : n < length items) where
   long : length (map wanted items) ≡ length items
   long = length-map items wanted
 
-  pub front-part : map wanted (take (n - 0) items) ≡ take n (map wanted items)
-  front-part = let e : n - 0 ≡ n = omega arith in ap (λ k. map wanted (take k items)) e ∙ map-take n items
+  pub front-part : take (n - 0) (drop 0 (map wanted items)) ≡ take n (map wanted items)
+  front-part = let e : n - 0 ≡ n = omega arith in ap (λ k. take k (map wanted items)) e
 
-  pub mid-part : map wanted (take (n + 1 - n) (drop n items)) ≡ nth (map wanted items) n ∷ []
-  mid-part =
-      let e : n + 1 - n ≡ 1 = omega arith in
-      ap (λ k. map wanted (take k (drop n items))) e ∙ map-take 1 (drop n items) ∙ ap (take 1) (map-drop n items) ∙ alone n (map wanted items) (omega (arith, long))
+  pub mid-part : take (n + 1 - n) (drop n (map wanted items)) ≡ nth (map wanted items) n ∷ []
+  mid-part = let e : n + 1 - n ≡ 1 = omega arith in ap (λ k. take k (drop n (map wanted items))) e ∙ alone n (map wanted items) (omega (arith, long))
 
-  pub back-part : map wanted (take (length items - (n + 1)) (drop (n + 1) items)) ≡ drop (suc n) (map wanted items)
-  back-part =
-      ap (map wanted) (take_all (length items - (n + 1)) (drop (n + 1) items) (omega (arith, length-drop (n + 1) items))) ∙ map-drop (n + 1) items ∙ ap (λ k. drop k (map wanted items)) (add-one n)
-
-  module _ (all : AllByRecursion Fit (map wanted items)) where
-    pub front-fit : AllByRecursion Fit (map wanted (take (n - 0) items))
-    front-fit = subst (AllByRecursion Fit) (sym front-part) (All-take Fit n (map wanted items) all)
-
-    pub mid-fit : AllByRecursion Fit (map wanted (take (n + 1 - n) (drop n items)))
-    mid-fit = subst (AllByRecursion Fit) (sym mid-part) (All-get_or Fit (map wanted items) n nothing (omega (arith, long)) all, tt)
-
-    pub back-fit : AllByRecursion Fit (map wanted (take (length items - (n + 1)) (drop (n + 1) items)))
-    back-fit = subst (AllByRecursion Fit) (sym back-part) (All-drop Fit (suc n) (map wanted items) all)
-
-  pub front-total : total (map wanted (take (n - 0) items)) ≡ total (take n (map wanted items))
-  front-total = ap total front-part
-
-  pub mid-total : total (map wanted (take (n + 1 - n) (drop n items))) ≡ least (nth (map wanted items) n)
-  mid-total = ap total mid-part ∙ total-one (nth (map wanted items) n)
-
-  pub back_total : total (map wanted (take (length items - (n + 1)) (drop (n + 1) items))) ≡ total (drop (suc n) (map wanted items))
-  back_total = ap total back-part
+  pub back-part : take (length items - (n + 1)) (drop (n + 1) (map wanted items)) ≡ drop (suc n) (map wanted items)
+  back-part = take_all (length items - (n + 1)) (drop (n + 1) (map wanted items)) (omega (arith, long, length-drop (n + 1) (map wanted items))) ∙ ap (λ k. drop k (map wanted items)) (add-one n)
 
   pub parts-sum : total (map wanted items) ≡ total (take n (map wanted items)) + least (nth (map wanted items) n) + total (drop (suc n) (map wanted items))
   parts-sum = total-parts n (map wanted items) (omega (arith, long))
 
--- three runs of bytes that fill a gap
-pub put_three : (at end : ℕ) (a b c old m₁ m₂ new : List ℕ) → length m₂ ≡ length old → Puts 0 a old m₁ at → Puts at b m₁ m₂ end → Puts end c m₂ new (length m₂) → new ≡ a ++ (b ++ c)
-put_three at end a b c old m₁ m₂ new same p q r =
-    let whole = puts_then 0 at (length m₂) a (b ++ c) old m₁ new p (puts_then at end (length m₂) b c m₁ m₂ new q r) in
-    whole.after ∙ ap (λ l. (a ++ (b ++ c)) ++ l) (drop_all (0 + length (a ++ (b ++ c))) old (omega (arith, whole.ends))) ∙ append-nil (a ++ (b ++ c))
+-- the same, each measured; and each laid in its part of the gap
+module _ (items : List Item) (n : ℕ) (in' : n < length items) (m m₁ m₂ m₃ : Measured) (e : m.items.now ≡ items)
+    (e₁ : map wanted m₁.items.now ≡ take (n - 0) (drop 0 (map wanted m.items.now)))
+    (e₂ : map wanted m₂.items.now ≡ take (n + 1 - n) (drop n (map wanted m.items.now)))
+    (e₃ : map wanted m₃.items.now ≡ take (length items - (n + 1)) (drop (n + 1) (map wanted m.items.now))) where
+  front : map wanted m₁.items.now ≡ take n (map wanted items)
+  front = e₁ ∙ ap (λ l. take (n - 0) (drop 0 (map wanted l))) e ∙ front-part items n in'
+
+  mid : map wanted m₂.items.now ≡ nth (map wanted items) n ∷ []
+  mid = e₂ ∙ ap (λ l. take (n + 1 - n) (drop n (map wanted l))) e ∙ mid-part items n in'
+
+  back : map wanted m₃.items.now ≡ drop (suc n) (map wanted items)
+  back = e₃ ∙ ap (λ l. take (length items - (n + 1)) (drop (n + 1) (map wanted l))) e ∙ back-part items n in'
+
+  pub sum-before : m₁.sum ≡ total (take n (map wanted items))
+  sum-before = m₁.summed ∙ ap total front
+
+  pub sum-alone : m₂.sum ≡ least (nth (map wanted items) n)
+  sum-alone = m₂.summed ∙ ap total mid ∙ total-one (nth (map wanted items) n)
+
+  pub sum-after : m₃.sum ≡ total (drop (suc n) (map wanted items))
+  sum-after = m₃.summed ∙ ap total back
+
+  pub sums : m₁.sum + m₂.sum + m₃.sum ≡ m.sum
+  sums = omega (arith, sum-before, sum-alone, sum-after, parts-sum items n in', m.summed, ap (λ l. total (map wanted l)) e)
+
+  pub laid-parts : (behind : Behind) (at end g l₁ l₂ l₃ : ℕ) (x y z : List ℕ)
+      → x ≡ laid_gap Locked (map wanted m₁.items.now) l₁ → y ≡ laid_gap Locked (map wanted m₂.items.now) l₂ → z ≡ laid_gap behind (map wanted m₃.items.now) l₃
+      → l₁ ≡ at → l₂ ≡ end - at → l₃ ≡ g - end → x ++ (y ++ z) ≡ three_parts behind (map wanted items) n at end g
+  laid-parts behind at end g l₁ l₂ l₃ x y z p q r f₁ f₂ f₃ =
+      (λ j. p j ++ (q j ++ r j)) ∙ (λ j. laid_gap Locked (front j) (f₁ j) ++ (laid_gap Locked (mid j) (f₂ j) ++ laid_gap behind (back j) (f₃ j)))
 
 -- whole blocks are no fewer bytes, so what readied sets need is no less than the sum
 pub need_more : (b : ℕ) (items : List Item) (n room : ℕ) → n < length items → room < total (map wanted items) → room < ready_need b (take n (map wanted items)) (nth (map wanted items) n) (drop (suc n) (map wanted items))
 need_more b items n room in' h = omega (arith, parts-sum items n in')
 
-pub measured_err : (behind : Behind) (b : ℕ) (items : List Item) (n : ℕ) (old : List ℕ) (f : LayoutFault) → n < length items → Totals (map wanted items) (length old) (Err f) → Readies behind b (map wanted items) n old old (Err f)
+pub measured_err : (behind : Behind) (b : ℕ) (items : List Item) (n : ℕ) (old : List ℕ) (f : LayoutFault) → n < length items → Measures items (length old) (Err f) → Readies behind b (map wanted items) n old old (Err f)
 measured_err behind b items n old (Unfit i) in' h = (h, refl)
 measured_err behind b items n old TooSmall in' h = (need_more b items n (length old) in' h, refl)
 measured_err behind b items n old NoPlace in' h = absurd h

@@ -1,5 +1,5 @@
 -- Sums of smallest forms, item by item.
-use Rattle.std.proofs.Common.{◌≡◌, ℕ, zero, suc, ◌+◌, ◌<◌, ◌≤◌, cond, eqb, ltb, List, [], ◌∷◌, ◌++◌, map, length, get_or, take, Err, sym, ap, ◌∙◌, subst, arith}
+use Rattle.std.proofs.Common.{◌≡◌, ℕ, zero, suc, ◌+◌, ◌<◌, ◌≤◌, cond, eqb, ltb, List, [], ◌∷◌, ◌++◌, map, length, get_or, take, sym, ap, ◌∙◌, subst, arith}
 use Rattle.std.specs.List.{AllByRecursion}
 use Rattle.std.proofs.lemmas.List.{length-map, get_or-map, get_or_default, take_more, take_all}
 use Rattle.std.proofs.ByRecursion.{All-push}
@@ -9,13 +9,11 @@ use Rattle.codes.specs.Numbers.{kind_number}
 use Rattle.codes.specs.Table.{packed_code, first_code}
 use Rattle.sets.specs.Sets.{bare, byte, led, name_size, long}
 use Rattle.sets.specs.Writing.{shortest}
-use Rattle.writing.specs.declared.faults.WriteFault.{WriteFault}
-use Rattle.writing.specs.declared.faults.WriteFault.TheVariants.{Identifier, Size, Extra, Short}
-use Rattle.writing.specs.Forms.{Sizes}
+use Rattle.writing.specs.Forms.{Wanted, Fit, wanted}
 use Rattle.writing.proofs.Formed.{packed-most}
-use Rattle.layout.specs.declared.items.Item.{Item}
-use Rattle.layout.specs.Plans.{Wanted, Fit, least, total}
-use Rattle.layout.specs.Lays.{wanted, FirstUnfit}
+use Rattle.writing.specs.declared.items.Item.{Item}
+use Rattle.layout.specs.Plans.{least, total}
+use Rattle.layout.specs.Lays.{FirstUnfit}
 
 -- a smallest form is not large
 short-name : (c : List ℕ) → name_size (shortest c) ≤ suc (length c)
@@ -71,10 +69,3 @@ blank = record { identifier = record { ref_ptr = (0, 0); now = [] }; kind = Appl
 
 pub all_items : (items : List Item) (i : ℕ) → length items ≤ i → take i (map wanted items) ≡ map wanted items
 all_items items i h = take_all i (map wanted items) (omega (arith, length-map items wanted))
-
--- what has no smallest form fits no set
-pub no_size : (w : Wanted) (f : WriteFault) → Sizes w.identifier (kind_number w.kind) w.object (Err f) → Fit w → ⊥
-no_size w Identifier h fit = h fit.identifier
-no_size w Size h fit = h.1 fit.object
-no_size w Extra h fit = h
-no_size w (Short n) h fit = h

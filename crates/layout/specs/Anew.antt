@@ -9,9 +9,11 @@ use Rattle.sets.specs.Readings.{Memory, Entry, Reading, found, identified, entry
 use Rattle.rivals.specs.Memories.{Shaped, Rival, Gap, Alone, seals, gap_entries}
 use Rattle.rivals.specs.Promises.{Lies, gap_before, gap_behind}
 use Rattle.rivals.specs.Relaid.{relaid, list_around, Distinct}
+use Rattle.writing.specs.Forms.{Wanted, Fit}
+use Rattle.rivals.specs.Rooms.{whole}
 use Rattle.layout.specs.declared.items.Behind.{Behind}
 use Rattle.layout.specs.declared.items.Behind.TheVariants.{Locked, End}
-use Rattle.layout.specs.Plans.{Wanted, Fit, total, whole, ready_need, nth}
+use Rattle.layout.specs.Plans.{total, ready_need, nth}
 use Rattle.layout.specs.Lays.{laid_gap, readied_gap}
 
 -- the entry that a wanted set is, open

@@ -2,16 +2,14 @@
 use Rattle.std.specs.Prelude.{◌≡◌, ℕ, suc, ◌+◌, ◌-◌, ◌<◌, ◌≤◌, ◌⊎◌, List, [], ◌∷◌, ◌++◌, length, take, drop, replicate, Ok, Err, Result, slice_index_or}
 use Rattle.std.specs.List.{AllByRecursion}
 use Rattle.sets.specs.Layouts.{laid}
-use Rattle.layout.specs.declared.items.Item.{Item}
+use Rattle.writing.specs.Forms.{Wanted, Fit}
+use Rattle.rivals.specs.Rooms.{whole}
 use Rattle.layout.specs.declared.items.Behind.{Behind}
 use Rattle.layout.specs.declared.items.Behind.TheVariants.{Locked, End}
 use Rattle.layout.specs.declared.items.LayoutFault.{LayoutFault}
 use Rattle.layout.specs.declared.items.LayoutFault.TheVariants.{Unfit, TooSmall, NoPlace}
 use Rattle.layout.specs.declared.items.Readied.{Readied}
-use Rattle.layout.specs.Plans.{Wanted, Fit, least, total, locked_plan, last_plan, whole, ready_need, nth}
-
-abbrev pub wanted : Item → Wanted
-wanted i = record { identifier = i.identifier.now; kind = i.kind; object = i.object.now }
+use Rattle.layout.specs.Plans.{least, total, locked_plan, last_plan, ready_need, nth}
 
 -- the bytes of a gap of g
 abbrev pub laid_gap : Behind → List Wanted → ℕ → List ℕ
@@ -30,13 +28,6 @@ Lays behind ws old new (Ok x) = AllByRecursion Fit ws × (total ws ≤ length ol
 Lays behind ws old new (Err (Unfit i)) = FirstUnfit ws i × (new ≡ old)
 Lays behind ws old new (Err TooSmall) = (length old < total ws) × (new ≡ old)
 Lays behind ws old new (Err NoPlace) = ⊥
-
--- the sum of the smallest forms, where it is no more than a room
-abbrev pub Totals : List Wanted → ℕ → Result ℕ LayoutFault → Type 0
-Totals ws room (Ok n) = AllByRecursion Fit ws × (n ≡ total ws) × (n ≤ room)
-Totals ws room (Err (Unfit i)) = FirstUnfit ws i
-Totals ws room (Err TooSmall) = room < total ws
-Totals ws room (Err NoPlace) = ⊥
 
 -- three parts of a gap of g bytes: up to `at` and up to `end` as before a locked block, then the rest
 abbrev pub three_parts : Behind → List Wanted → ℕ → ℕ → ℕ → ℕ → List ℕ

@@ -1,3 +1,4 @@
 pub mod Plans
 pub mod Lays
+pub mod Measures
 pub mod Anew

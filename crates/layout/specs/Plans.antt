@@ -1,34 +1,18 @@
 -- The tiles of a gap that is laid out: sets in smallest form from its start, what is left over behind them.
-use Rattle.std.specs.Prelude.{ℕ, ◌+◌, ◌-◌, ◌%◌, min, List, [], ◌∷◌, ◌++◌, replicate, slice_index_or}
-use Rattle.codes.specs.declared.kind.Kind.{Kind}
+use Rattle.std.specs.Prelude.{ℕ, ◌+◌, ◌-◌, min, List, [], ◌∷◌, ◌++◌, replicate, slice_index_or}
 use Rattle.codes.specs.declared.kind.Kind.TheVariants.{Application}
-use Rattle.codes.specs.Numbers.{kind_number}
-use Rattle.packing.specs.Packing.{Sized}
-use Rattle.sets.specs.Sets.{Set, Tile, filler, holds, size}
-use Rattle.sets.specs.Laws.{Proper}
-use Rattle.writing.specs.Forms.{form}
+use Rattle.sets.specs.Sets.{Tile, filler, holds, size}
+use Rattle.rivals.specs.Rooms.{whole}
+use Rattle.writing.specs.Forms.{Wanted, formed}
 
--- an identifier's content and an object of a kind, wanted in a gap
-pub record Wanted : Type 0 where
-  pub identifier : List ℕ
-  pub kind : Kind
-  pub object : List ℕ
-
--- its set with so many bytes of offset and pad; the bytes of its smallest form
-abbrev pub formed : ℕ → Wanted → Set
-formed extra w = form extra w.identifier (kind_number w.kind) w.object
-
+-- The bytes of its smallest form, and of those of some together.
+-- Stays: `rivals` sums entries, whose kind is a number and which may be sealed; to make entries of items first is no plainer.
 abbrev pub least : Wanted → ℕ
 least w = size (formed 0 w)
 
 unfoldable pub total : List Wanted → ℕ
 total [] = 0
 total (w ∷ ws) = least w + total ws
-
--- one that a set can hold
-pub record Fit (w : Wanted) : Type 0 where
-  pub identifier : Proper w.identifier
-  pub object : Sized w.object
 
 -- smallest forms end to end, the last with so many bytes of offset and pad
 unfoldable pub run : List Wanted → ℕ → List Tile
@@ -50,13 +34,6 @@ locked_plan ws g =
 -- a gap that runs to the end: the rest is 00
 abbrev pub last_plan : List Wanted → List Tile
 last_plan ws = run ws 0
-
--- the bytes up to the next start of a block of b bytes, none at a start; and so many bytes on whole blocks
-abbrev pub to_block : ℕ → ℕ → ℕ
-to_block b n = (b - n % b) % b
-
-abbrev pub whole : ℕ → ℕ → ℕ
-whole b n = n + to_block b n
 
 -- A readied set begins at the first block start behind those before it and ends where a block ends, so that its blocks
 -- can be locked without another set: what a gap then has to have.

@@ -1,23 +1,16 @@
-// What is to be laid into a gap.
-use codes::Kind;
-
-/// An identifier and an object of a kind, to stand as a set.
-#[derive(Clone, Copy)]
-pub struct Item<'a> {
-    pub identifier: &'a [u8],
-    pub kind: Kind,
-    pub object: &'a [u8],
-}
+// What a gap is laid out for, and what its layout answers.
+use std::error::Error;
+use std::fmt;
 
 /// What stands behind a gap, which is a longest run of open blocks: a locked block, or the end of the memory.
-#[derive(Clone, Copy)]
+#[derive(Clone, Copy, Debug, PartialEq, Eq)]
 pub enum Behind {
     Locked,
     End,
 }
 
 /// Why a gap is not laid out.
-#[derive(Clone, Copy)]
+#[derive(Clone, Copy, Debug, PartialEq, Eq)]
 pub enum LayoutFault {
     /// the first item that no set can hold: its identifier (19) or its object (20) is at fault
     Unfit(usize),
@@ -27,8 +20,20 @@ pub enum LayoutFault {
     NoPlace,
 }
 
+impl fmt::Display for LayoutFault {
+    fn fmt<W: fmt::Write>(&self, f: &mut fmt::Formatter<W>) -> fmt::Result {
+        match self {
+            LayoutFault::Unfit(i) => write!(f, "item {i} unfit"),
+            LayoutFault::TooSmall => f.write_str("too small"),
+            LayoutFault::NoPlace => f.write_str("no place"),
+        }
+    }
+}
+
+impl Error for LayoutFault {}
+
 /// Where a readied set stands in its gap, and how many bytes of whole blocks it takes.
-#[derive(Clone, Copy)]
+#[derive(Clone, Copy, Debug, PartialEq, Eq)]
 pub struct Readied {
     pub at: usize,
     pub bytes: usize,

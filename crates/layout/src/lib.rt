@@ -3,8 +3,10 @@
 
 mod gaps;
 mod items;
+mod measured;
 mod ready;
 
 pub use gaps::lay_out;
-pub use items::{Behind, Item, LayoutFault, Readied};
+pub use items::{Behind, LayoutFault, Readied};
 pub use ready::lay_ready;
+pub use writing::Item;

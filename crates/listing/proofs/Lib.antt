@@ -1,3 +1,2 @@
 pub mod Hexing
-pub mod Filling
 pub mod Passing

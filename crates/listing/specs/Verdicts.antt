@@ -1,6 +1,7 @@
 -- Whether a dump has a listing: the first refusal of its checks, or how many sets and free bytes it has.
-use Rattle.std.specs.Prelude.{ℕ, ◌+◌, Bool, cond, ◌&&◌, List, take, drop, Some, None, Ok, Err, Option, Result, nat_le, slice_index}
+use Rattle.std.specs.Prelude.{ℕ, ◌+◌, cond, List, take, drop, Some, None, Ok, Err, Option, Result, slice_index}
 use Rattle.tags.specs.declared.faults.DumpFault.{DumpFault}
+use Rattle.tags.specs.Tags.{known_format}
 use Rattle.tags.specs.Dumps.{size_of, count_of, dump_fault}
 use Rattle.tags.specs.Faults.{dump_number, dump_place}
 use Rattle.sets.specs.Parsing.{plain}
@@ -8,11 +9,9 @@ use Rattle.sets.specs.Scans.{Refusal}
 use Rattle.sets.specs.Readings.{Memory}
 use Rattle.scan.specs.declared.tables.Tally.{Tally}
 use Rattle.reading.specs.Checks.{memory, answer}
-use Rattle.listing.specs.declared.lines.RefusedLine.{RefusedLine}
-
--- access method 0, data format 3 to 28
-abbrev pub admitted : ℕ → Bool
-admitted system = nat_le 3 system && nat_le system 28
+use Rattle.listing.specs.declared.refusals.Refused.{Refused}
+use Rattle.listing.specs.declared.verdicts.Passed.{Passed}
+use Rattle.listing.specs.Refusals.{refusal_of}
 
 abbrev pub dump_memory : List ℕ → Memory
 dump_memory xs = memory (size_of xs) (take (count_of xs) (drop 3 xs)) (drop (3 + count_of xs) xs)
@@ -23,8 +22,8 @@ by_dump None r = r
 
 abbrev pub verdict : ℕ → List ℕ → Result Tally Refusal
 verdict room xs =
-    by_dump (dump_fault xs) (cond (admitted (slice_index xs 2)) (answer room (dump_memory xs)) (Err (record { place = slice_index xs 2; flaw = plain 5 })))
+    by_dump (dump_fault xs) (cond (known_format (slice_index xs 2)) (answer room (dump_memory xs)) (Err (record { place = slice_index xs 2; flaw = plain 5 })))
 
-abbrev pub told : Result Tally RefusedLine → Result Tally Refusal
-told (Ok t) = Ok t
-told (Err l) = Err (record { place = l.place; flaw = record { number = l.number; group = l.group } })
+abbrev pub told : Result Passed Refused → Result Tally Refusal
+told (Ok p) = Ok p.tally
+told (Err r) = Err (refusal_of r)

@@ -2,8 +2,8 @@
 ghost use Rattle.std.specs.Prelude.{◌≡◌};
 ghost use Rattle.listing.specs.Fills.{percent, Nearest};
 
-// The work of `fill`.
-fn rounded(used: usize, total: usize) -> usize
+/// The used bytes in per cent of all, to the nearest whole, a half upwards; 0 of no bytes, and no more than 100.
+pub fn fill(used: usize, total: usize) -> usize
     ensures value { result ≡ percent used total }
     ensures cases { Nearest used total result }
 {
@@ -13,12 +13,4 @@ fn rounded(used: usize, total: usize) -> usize
     let used = used.min(total) as u128;
     let total = total as u128;
     ((200 * used + total) / (2 * total)) as usize
-}
-
-/// The used bytes in per cent of all, to the nearest whole, a half upwards; 0 of no bytes, and no more than 100.
-pub fn fill(used: usize, total: usize) -> usize
-    ensures value { result ≡ percent used total }
-    ensures cases { Nearest used total result }
-{
-    rounded(used, total)
 }

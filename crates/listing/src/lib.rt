@@ -5,10 +5,12 @@ mod fills;
 mod hexes;
 mod lines;
 mod listings;
+mod refusals;
 mod verdicts;
 
 pub use fills::fill;
 pub use hexes::{Hex, IdentifierHex};
-pub use lines::{RefusedLine, SetLine, TagLine, UsedLine};
+pub use lines::{SetLine, TagLine, UsedLine};
 pub use listings::listing;
-pub use verdicts::examine;
+pub use refusals::Refused;
+pub use verdicts::{Passed, examine};

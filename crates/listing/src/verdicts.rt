@@ -1,43 +1,29 @@
 // Whether a dump has a listing.
-ghost use Rattle.std.specs.Prelude.{◌≡◌, length};
+ghost use Rattle.std.specs.Prelude.{◌≡◌, length, IfOk};
+ghost use Rattle.tags.specs.Dumps.{Read};
 ghost use Rattle.listing.specs.Verdicts.{told, verdict};
 
-use super::lines::RefusedLine;
-use reading::check;
+use super::refusals::Refused;
+use reading::Memory;
 use scan::{SetRecord, Tally};
-use tags::Dump;
+use tags::{Dump, known_format};
+
+/// A dump that has a listing, and how many sets and free bytes it has.
+#[derive(Clone, Copy)]
+pub struct Passed<'a> {
+    pub dump: Dump<'a>,
+    pub tally: Tally,
+}
 
 /// The checks of a dump in their order: its size and shape, its system byte, its sets, its locks, its identifiers.
-pub fn examine(bytes: &[u8], table: &mut [SetRecord]) -> Result<Tally, RefusedLine>
+pub fn examine<'a>(bytes: &'a [u8], table: &mut [SetRecord]) -> Result<Passed<'a>, Refused>
     ensures value { told result ≡ verdict (length table.old) bytes.now }
+    ensures read { IfOk result (λ p. Read bytes.entry.now p.dump) }
 {
-    let dump = match Dump::read(bytes) {
-        Ok(dump) => dump,
-        Err(fault) => {
-            return Err(RefusedLine {
-                number: fault.number(),
-                place: fault.place(),
-                group: 0,
-            });
-        }
-    };
-    let system = dump.system();
-    if system < 3 || system > 28 {
-        return Err(RefusedLine {
-            number: 5,
-            place: system as usize,
-            group: 0,
-        });
+    let dump = Dump::read(bytes)?;
+    if !known_format(dump.system()) {
+        return Err(Refused::System(dump.system()));
     }
-    let shape = dump.shape();
-    let content = 3 + shape.count;
-    let locks = &bytes[3..content];
-    match check(dump.content(), locks, shape.size, table) {
-        Ok(tally) => Ok(tally),
-        Err(fault) => Err(RefusedLine {
-            number: fault.number(),
-            place: fault.place(),
-            group: fault.group(),
-        }),
-    }
+    let tally = Memory::from(dump).check(table)?;
+    Ok(Passed { dump, tally })
 }

@@ -1,8 +1,8 @@
 // The order layers: a driver over any driver, each block turned.
 #![tactic(auto)]
 
-ghost use Rattle.std.specs.Prelude.{◌≡◌, ℕ, ◌≤◌, List, length, take};
-ghost use Rattle.drivers.specs.Layers.{turn_tag, by_bytes, by_bits, Alike};
+ghost use Rattle.std.specs.Prelude.{◌≡◌};
+ghost use Rattle.drivers.specs.Layers.{turn_tag, Alike};
 ghost use Rattle.orders.specs.Shows.{shown};
 ghost use Rattle.drivers.proofs.Turning.{turn_shaped};
 
@@ -26,23 +26,8 @@ pub type ByteOrder<D> = Turned<Bytes, D>;
 /// The bit-order layer: the bits of each byte from last to first.
 pub type BitOrder<D> = Turned<Bits, D>;
 
-pub fn byte_order<D: Driver>(lower: D) -> ByteOrder<D>
-    ensures value { shown by_bytes D.Driver.tag result ≡ turn_tag by_bytes (D.Driver.tag lower) }
-    ensures same { turn_tag by_bytes (shown by_bytes D.Driver.tag result) ≡ D.Driver.tag lower }
-    ensures shape { Alike (shown by_bytes D.Driver.tag result) (D.Driver.tag lower) }
-{
-    over(Bytes, lower)
-}
-
-pub fn bit_order<D: Driver>(lower: D) -> BitOrder<D>
-    ensures value { shown by_bits D.Driver.tag result ≡ turn_tag by_bits (D.Driver.tag lower) }
-    ensures same { turn_tag by_bits (shown by_bits D.Driver.tag result) ≡ D.Driver.tag lower }
-    ensures shape { Alike (shown by_bits D.Driver.tag result) (D.Driver.tag lower) }
-{
-    over(Bits, lower)
-}
-
 /// The layer that turns each block of `lower`. Turned once more, its tag is the one below.
+#[tactic(auto, using(drivers::proofs::Turning::turn_twice))]
 pub fn over<T: Turn, D: Driver>(turn: T, lower: D) -> Turned<T, D>
     ensures value { shown T.Turn.turned D.Driver.tag result ≡ turn_tag T.Turn.turned (D.Driver.tag lower) }
     ensures same { turn_tag T.Turn.turned (shown T.Turn.turned D.Driver.tag result) ≡ D.Driver.tag lower }
@@ -75,20 +60,23 @@ impl<T: Turn, D: Driver> Driver for Turned<T, D> {
         self.lower.locked(k)
     }
 
+    #[tactic(auto, using(drivers::proofs::Turning::turn_read))]
     fn read(&mut self, k: usize, out: &mut [u8]) -> Result<(), DriverFault> {
         self.lower.read(k, out)?;
         self.turn.turn(out);
         Ok(())
     }
 
+    #[tactic(auto, using(drivers::proofs::Turning::turn_wrote))]
     fn write(&mut self, k: usize, from: &[u8]) -> Result<(), DriverFault> {
-        let n = from.len();
-        if n > Shape::MOST {
+        let mut block = [0u8; Shape::MOST];
+        let Some(front) = block.get_mut(..from.len()) else {
             // No block is so long: the driver below refuses it.
             return self.lower.write(k, from);
-        }
-        let block = turned_block(&self.turn, from);
-        self.lower.write(k, &block[0..n])
+        };
+        front.copy_from_slice(from);
+        self.turn.turn(front);
+        self.lower.write(k, front)
     }
 
     fn lock(&mut self, k: usize) -> Result<(), DriverFault> {
@@ -98,24 +86,4 @@ impl<T: Turn, D: Driver> Driver for Turned<T, D> {
     fn set_system(&mut self, b: u8) -> Result<(), DriverFault> {
         self.lower.set_system(b)
     }
-}
-
-// Puts `from`, turned, at the front of `out`.
-fn turn_into<T: Turn>(turn: &T, from: &[u8], out: &mut [u8])
-    requires { length from.now ≤ length out.old }
-    ensures after { take (length from.now) out.new ≡ T.Turn.turned from.now }
-{
-    let front = &mut out[0..from.len()];
-    front.copy_from_slice(from);
-    turn.turn(front);
-}
-
-// `from`, turned, at the front of a block of the largest size.
-fn turned_block<T: Turn>(turn: &T, from: &[u8]) -> [u8; 256]
-    requires { length from.now ≤ 256 }
-    ensures value { take (length from.now) result ≡ T.Turn.turned from.now }
-{
-    let mut block = [0u8; 256];
-    turn_into(turn, from, &mut block);
-    block
 }

@@ -16,7 +16,7 @@ pub trait Turn {
 }
 
 /// The bytes of a block from last to first.
-#[derive(Clone, Copy)]
+#[derive(Clone, Copy, Debug, PartialEq, Eq)]
 pub struct Bytes;
 
 impl Turn for Bytes {
@@ -32,7 +32,7 @@ impl Turn for Bytes {
 }
 
 /// The bits of each byte from last to first.
-#[derive(Clone, Copy)]
+#[derive(Clone, Copy, Debug, PartialEq, Eq)]
 pub struct Bits;
 
 impl Turn for Bits {

@@ -1,5 +1,5 @@
 -- An alphabet's row of the table, and what its loops keep.
-use Rattle.std.proofs.Common.{◌≡◌, ℕ, zero, suc, ◌+◌, ◌-◌, ◌*◌, ◌%◌, ◌^◌, ◌<◌, ◌≤◌, Bool, true, false, not, ◌&&◌, eqb, ltb, leb, ◌⊎◌, List, [], ◌∷◌, map, length, get_or, take, Ok, Err, sym, ap, ◌∙◌, subst, ⊎_elim, mod-lt, arith, pow_pos}
+use Rattle.std.proofs.Common.{◌≡◌, ℕ, zero, suc, ◌+◌, ◌-◌, ◌*◌, ◌%◌, ◌^◌, ◌<◌, ◌≤◌, Bool, true, false, not, ◌&&◌, eqb, ltb, leb, List, [], ◌∷◌, map, length, get_or, take, Ok, Err, sym, ap, ◌∙◌, subst, ⊎_elim, mod-lt, arith, pow_pos}
 use Rattle.std.proofs.lemmas.List.{length-map, length-take-le, get_or-take, get_or-map}
 use Rattle.std.proofs.lemmas.Nat.{one_shl}
 use Rattle.std.proofs.lemmas.Bool.{and_left, and_right, le-leb, lt-leb, le-ltb, lt-ltb, ne_eqb, eq-eqb, cases_Bool, cond-true, cond-false, cond_both}
@@ -8,18 +8,8 @@ use Rattle.codes.specs.declared.fault.Fault.TheVariants.{NoCharacter}
 use Rattle.codes.specs.Table.{letter, upto, many, blank_end, permitted}
 use Rattle.packing.specs.Packing.{said, Measured}
 use Rattle.packing.proofs.Meaning.{measured_by}
-use Rattle.packing.specs.declared.alphabet.Alphabet.{Alphabet}
 use Rattle.packing.specs.Coded.{lettered}
-use Rattle.packing.specs.Rows.{Listed, listed}
-
-pub within_in : (lo hi b : ℕ) (x : List ℕ) → lo ≤ b → b ≤ hi → within lo hi (b ∷ x) ≡ within lo hi x
-within_in lo hi b x l h = (λ j. (le-leb lo b l j && le-leb b hi h j) && within lo hi x)
-
-pub within_out : (lo hi b : ℕ) (x : List ℕ) → (b < lo) ⊎ (hi < b) → within lo hi (b ∷ x) ≡ false
-within_out lo hi b x o = and_left (leb lo b && leb b hi) (within lo hi x) (⊎_elim (λ h. and_left (leb lo b) (leb b hi) (lt-leb lo b h)) (λ h. and_right (leb lo b) (leb b hi) (lt-leb b hi h)) o)
-
-pub row : (a : Alphabet) → Listed a.code a.width a.padding a.least a.first a.last a.blank
-row a = listed a.code a.width a.padding a.least a.first a.last a.blank a.ok
+use Rattle.packing.specs.Rows.{Listed}
 
 module _ {k w p least lo hi : ℕ} {blank : Bool} (l : Listed k w p least lo hi blank) where
   -- which objects the code is for, as the code finds it

@@ -1,7 +1,9 @@
 -- The first permitted code, as tests find it; and the laws of the table, of what was chosen and packed.
-use Rattle.std.proofs.Common.{◌≡◌, ℕ, ◌<◌, ◌≤◌, Bool, true, false, cond, List, length, take, drop, Ok, Err, Result, sym, refl, ap, ◌∙◌, arith}
+use Rattle.std.proofs.Common.{◌≡◌, ℕ, ◌<◌, ◌≤◌, Bool, true, false, cond, List, [], ◌∷◌, length, take, drop, Ok, Err, Result, sym, refl, ap, ◌∙◌, arith}
+use Rattle.std.specs.Prelude.{Some, None, find, unwrap_or}
 use mathlib.Core.Path.{transport}
 use Rattle.std.specs.Int.Digits.{AllBelowBase}
+use Rattle.std.proofs.lemmas.Bool.{true≢false}
 use Rattle.std.proofs.lemmas.List.{take_at}
 use Rattle.codes.specs.declared.kind.Kind.{Kind}
 use Rattle.codes.specs.declared.kind.Kind.TheVariants.{Application, Compact, Utf8}
@@ -13,11 +15,8 @@ use Rattle.codes.specs.declared.fault.Fault.{Fault}
 use Rattle.codes.proofs.Faults.{faults_told}
 use Rattle.codes.proofs.Choice.{comes_back, first-permitted, first-shortest, none_shorter}
 use Rattle.packing.specs.declared.choice.PackFault.{PackFault}
-use Rattle.packing.specs.Packing.{Packs, ComesBack, Shortest, Measured, Tells}
-
--- a test of code k, by an answer on another number that is k
-pub tested : (k j : ℕ) (x : List ℕ) (b v : Bool) → j ≡ k → b ≡ permitted j x → b ≡ v → permitted k x ≡ v
-tested k j x b v e h t = ap (λ i. permitted i x) (sym e) ∙ sym h ∙ t
+use Rattle.packing.specs.declared.choice.PackFault.TheVariants.{Size, NotPermitted, TooShort}
+use Rattle.packing.specs.Packing.{Declined, Packs, Plans, ComesBack, Shortest, Measured, Tells}
 
 -- kinds 0 and 2 have one code each
 pub first_0 : (x : List ℕ) → 0 ≡ first_code 0 x
@@ -28,37 +27,18 @@ pub first_7 : (x : List ℕ) → 7 ≡ first_code 2 x
 unfolding permitted first_code
 first_7 x = refl
 
-module _ (x : List ℕ) where
-  is : (k : ℕ) → first_code 1 x ≡ k → k ≡ first_code 1 x
-  is k e = sym e
+-- the codes that are tried, in the order of the table
+by-tests : (a b c d e : Bool) → code_number (unwrap_or (cond a (Some Integer) (cond b (Some Numeric) (cond c (Some FiveBit) (cond d (Some SixBit) (cond e (Some SevenBit) None))))) OctetString) ≡ cond a 1 (cond b 2 (cond c 3 (cond d 4 (cond e 5 6))))
+by-tests true b c d e = refl
+by-tests false true c d e = refl
+by-tests false false true d e = refl
+by-tests false false false true e = refl
+by-tests false false false false true = refl
+by-tests false false false false false = refl
 
-  pub first_1 : permitted 1 x ≡ true → 1 ≡ first_code 1 x
-  unfolding permitted first_code
-  first_1 t = is 1 (λ j. cond (t j) 1 (cond (permitted 2 x) 2 (cond (permitted 3 x) 3 (cond (permitted 4 x) 4 (cond (permitted 5 x) 5 6)))))
-
-  module _ (f1 : permitted 1 x ≡ false) where
-    pub first-2 : permitted 2 x ≡ true → 2 ≡ first_code 1 x
-    unfolding permitted first_code
-    first-2 t = is 2 (λ j. cond (f1 j) 1 (cond (t j) 2 (cond (permitted 3 x) 3 (cond (permitted 4 x) 4 (cond (permitted 5 x) 5 6)))))
-
-    module _ (f2 : permitted 2 x ≡ false) where
-      pub first-3 : permitted 3 x ≡ true → 3 ≡ first_code 1 x
-      unfolding permitted first_code
-      first-3 t = is 3 (λ j. cond (f1 j) 1 (cond (f2 j) 2 (cond (t j) 3 (cond (permitted 4 x) 4 (cond (permitted 5 x) 5 6)))))
-
-      module _ (f3 : permitted 3 x ≡ false) where
-        pub first-4 : permitted 4 x ≡ true → 4 ≡ first_code 1 x
-        unfolding permitted first_code
-        first-4 t = is 4 (λ j. cond (f1 j) 1 (cond (f2 j) 2 (cond (f3 j) 3 (cond (t j) 4 (cond (permitted 5 x) 5 6)))))
-
-        module _ (f4 : permitted 4 x ≡ false) where
-          pub first-5 : permitted 5 x ≡ true → 5 ≡ first_code 1 x
-          unfolding permitted first_code
-          first-5 t = is 5 (λ j. cond (f1 j) 1 (cond (f2 j) 2 (cond (f3 j) 3 (cond (f4 j) 4 (cond (t j) 5 6)))))
-
-          pub first-6 : permitted 5 x ≡ false → 6 ≡ first_code 1 x
-          unfolding permitted first_code
-          first-6 t = is 6 (λ j. cond (f1 j) 1 (cond (f2 j) 2 (cond (f3 j) 3 (cond (f4 j) 4 (cond (t j) 5 6)))))
+pub first_tried : (x : List ℕ) → code_number (unwrap_or (find (λ c. permitted (code_number c) x) (Integer ∷ Numeric ∷ FiveBit ∷ SixBit ∷ SevenBit ∷ [])) OctetString) ≡ first_code 1 x
+unfolding permitted first_code
+first_tried x = by-tests (permitted 1 x) (permitted 2 x) (permitted 3 x) (permitted 4 x) (permitted 5 x)
 
 -- no permitted code packs shorter, what is packed comes back, and no bytes that say it are fewer
 pub shortest_by : (c kind : ℕ) (x : List ℕ) → c ≡ first_code kind x → Shortest c kind x
@@ -92,3 +72,9 @@ kind-below Utf8 = omega arith
 
 pub permitted_by : (kind : Kind) (x : List ℕ) (k : ℕ) → k ≡ first_code (kind_number kind) x → permitted k x ≡ true
 permitted_by kind x k e = ap (λ k. permitted k x) e ∙ (first-permitted (kind_number kind) x (kind-below kind)).1
+
+-- no plan is made of an object only where its size is at fault
+pub declined_plans : (kind : Kind) (x : List ℕ) (k : ℕ) (f : PackFault) → k ≡ first_code (kind_number kind) x → Declined k x f → Plans (kind_number kind) x (Err f)
+declined_plans kind x k Size e h = h
+declined_plans kind x k NotPermitted e h = true≢false (sym (permitted_by kind x k e) ∙ h.1)
+declined_plans kind x k (TooShort n) e h = h

@@ -1,6 +1,7 @@
 -- What the loops over digits keep.
-use Rattle.std.proofs.Common.{◌≡◌, ℕ, ◌+◌, ◌-◌, ◌*◌, ◌/◌, ◌%◌, ◌^◌, ◌<◌, ◌≤◌, true, ◌&&◌, eqb, leb, List, [], ◌∷◌, map, length, get_or, take, Ok, Err, sym, refl, ap, ◌∙◌, subst, ⊎_elim, div-lt_iff_lt-mul, mul-le-mul_left, arith}
+use Rattle.std.proofs.Common.{◌≡◌, ℕ, suc, ◌+◌, ◌-◌, ◌*◌, ◌/◌, ◌%◌, ◌^◌, ◌<◌, ◌≤◌, true, ◌&&◌, eqb, leb, List, [], ◌∷◌, map, length, get_or, take, Ok, Err, sym, refl, ap, ◌∙◌, subst, ⊎_elim, div-lt_iff_lt-mul, mul-le-mul_left, arith}
 use native.Mathlib.Nat.{pow-le-pow_right, pow-le-pow_left}
+use Rattle.std.specs.List.{AllByRecursion}
 use Rattle.std.specs.Int.Digits.{digits_of, number_from_digits, AllBelowBase}
 use Rattle.std.proofs.lemmas.Int.Digits.{digits_of_step, length-digits_of_step, length-digits_of-le, all_below_base_digits_of, number_lt, number_more}
 use Rattle.std.proofs.lemmas.List.{length-map, length-take-le, get_or-map, get_or-take, get_or_push, take_all, take_at, take-take}
@@ -8,8 +9,7 @@ use Rattle.std.proofs.ByRecursion.{All-get_or, All-take}
 use Rattle.std.proofs.lemmas.Bool.{cases_eq, cases_lt, ne_eqb, le-leb, lt-leb, leb-true, and_parts, and_from, and_left, and_right, cond-true, cond-false, cond_both}
 use Rattle.codes.specs.Table.{within}
 use Rattle.codes.specs.declared.fault.Fault.TheVariants.{TooLarge}
-use Rattle.codes.specs.Table.{value, decimal, largest, unpacked_integer}
-use Rattle.codes.proofs.Integers.{under_ten}
+use Rattle.codes.specs.Table.{decimal, largest, unpacked_integer}
 use Rattle.codes.proofs.Letters.{all-within}
 use Rattle.packing.specs.Packing.{said, Measured}
 use Rattle.packing.proofs.Meaning.{measured_by}
@@ -22,19 +22,42 @@ front-lt b m i ds pos u in' le =
     let top : b ^ i ≤ b ^ m = pow-le-pow_right pos le in
     omega (arith, top, subst (λ k. number_from_digits b (take i ds) < b ^ k) n small)
 
-module _ (x : List ℕ) (h : within 0x30 0x39 x ≡ true) (i : ℕ) (in' : i < length x) where
-  pub digit_here : (0x30 ≤ get_or x i 0) × (get_or x i 0 ≤ 0x39)
-  digit_here = All-get_or (λ b. (0x30 ≤ b) × (b ≤ 0x39)) x i 0 in' (all-within 0x30 0x39 x h)
+-- digits that are counted from the byte that stands for zero
+module _ (base zero : ℕ) (x : List ℕ) (some : 1 ≤ base) (h : within zero (zero + base - 1) x ≡ true) where
+  abbrev pub counts : List ℕ
+  counts = map (λ b. b - zero) x
 
-  pub value-front : length x ≤ 19 → number_from_digits 10 (take i (map (λ b. b - 0x30) x)) < 10 ^ 18
-  value-front few = front-lt 10 18 i (map (λ b. b - 0x30) x) (omega arith) (under_ten x h) (omega (arith, length-map x (λ b. b - 0x30))) (omega arith)
+  counts-long : length (map (λ b. b - zero) x) ≡ length x
+  counts-long = length-map x (λ b. b - zero)
 
-pub value-more : (x : List ℕ) (i v : ℕ) → i < length x → v ≡ number_from_digits 10 (take i (map (λ b. b - 0x30) x)) → v * 10 + (get_or x i 0 - 0x30) ≡ number_from_digits 10 (take (i + 1) (map (λ b. b - 0x30) x))
-value-more x i v in' e =
-    (λ j. e j * 10 + sym (get_or-map (λ b. b - 0x30) x i 0 0 in') j) ∙ sym (number_more 10 (map (λ b. b - 0x30) x) i (omega (arith, length-map x (λ b. b - 0x30))))
+  pub digit_here : (i : ℕ) → i < length x → (zero ≤ get_or x i 0) × (get_or x i 0 ≤ zero + base - 1)
+  digit_here i in' = All-get_or (λ b. (zero ≤ b) × (b ≤ zero + base - 1)) x i 0 in' (all-within zero (zero + base - 1) x h)
 
-pub value-all : (x : List ℕ) (i v : ℕ) → length x ≤ i → v ≡ number_from_digits 10 (take i (map (λ b. b - 0x30) x)) → v ≡ value x
-value-all x i v le e = e ∙ ap (number_from_digits 10) (take_all i (map (λ b. b - 0x30) x) (omega (arith, length-map x (λ b. b - 0x30))))
+  under_base : AllBelowBase base (map (λ b. b - zero) x)
+  under_base = All-map x (all-within zero (zero + base - 1) x h)
+    where
+      All-map : (y : List ℕ) → AllByRecursion (λ b. (zero ≤ b) × (b ≤ zero + base - 1)) y → AllBelowBase base (map (λ b. b - zero) y)
+      All-map [] a = tt
+      All-map (b ∷ y) a = (omega (arith, a.0, some), All-map y a.1)
+
+  module _ (i v : ℕ) (in' : i < length x) (e : v ≡ number_from_digits base (take i (map (λ b. b - zero) x))) where
+    pub digit-more : v * base + (get_or x i 0 - zero) ≡ number_from_digits base (take (i + 1) (map (λ b. b - zero) x))
+    digit-more = (λ j. e j * base + sym (get_or-map (λ b. b - zero) x i 0 0 in') j) ∙ sym (number_more base (map (λ b. b - zero) x) i (omega (arith, counts-long)))
+
+    pub digit-fits : base ^ length x ≤ 2 ^ 64 → v * base + (get_or x i 0 - zero) < 2 ^ 64
+    digit-fits few = omega (arith, few, digit-more, front-lt base (length x) (i + 1) (map (λ b. b - zero) x) some under_base (omega (arith, counts-long)) (omega arith))
+
+  pub digits-all : (i v : ℕ) → length x ≤ i → v ≡ number_from_digits base (take i (map (λ b. b - zero) x)) → v ≡ number_from_digits base (map (λ b. b - zero) x)
+  digits-all i v le e = e ∙ ap (number_from_digits base) (take_all i (map (λ b. b - zero) x) (omega (arith, counts-long)))
+
+-- bytes are digits to the base 256
+pub bytes_within : (x : List ℕ) → ((i : ℕ) → i < length x → get_or x i 0 < 256) → within 0 (0 + 256 - 1) x ≡ true
+bytes_within [] h = refl
+bytes_within (b ∷ x) h = and_from _ _ (and_from _ _ (le-leb 0 b (omega arith)) (le-leb b 255 (omega (arith, h 0 (omega arith))))) (bytes_within x (λ i in'. h (suc i) (omega arith)))
+
+pub less_none : (x : List ℕ) → map (λ b. b - 0) x ≡ x
+less_none [] = refl
+less_none (b ∷ x) = let e : b - 0 ≡ b = omega arith in (λ j. e j ∷ less_none x j)
 
 -- a number has fewer digits once the last is cut off
 pub cut-lt : (b v : ℕ) → 2 ≤ b → 0 < v → v / b < v

@@ -1,4 +1,4 @@
-pub mod Groups
+pub mod Places
 pub mod Meaning
 pub mod Alphabets
 pub mod DigitLoops

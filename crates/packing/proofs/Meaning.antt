@@ -1,7 +1,7 @@
 -- What bytes say, from what their groups mean.
-use Rattle.std.proofs.Common.{◌≡◌, ℕ, suc, ◌+◌, ◌-◌, ◌*◌, ◌/◌, ◌%◌, ◌^◌, ◌<◌, ◌≤◌, Bool, true, false, ◌&&◌, eqb, leb, List, [], ◌∷◌, ◌++◌, length, get_or, take, drop, set, Ok, Err, Result, sym, refl, ap, ◌∙◌, subst, ⊎_elim, mod-lt, mod-eq_of_lt, div-add-mod', arith}
+use Rattle.std.proofs.Common.{◌≡◌, ℕ, suc, ◌+◌, ◌-◌, ◌*◌, ◌/◌, ◌%◌, ◌^◌, ◌<◌, ◌≤◌, Bool, true, false, ◌&&◌, eqb, leb, List, [], ◌∷◌, ◌++◌, length, get_or, take, set, Ok, Err, Result, sym, ap, ◌∙◌, subst, ⊎_elim, mod-lt, mod-eq_of_lt, div-add-mod', arith}
 use mathlib.Core.Path.{transport}
-use Rattle.std.proofs.lemmas.List.{take_all, drop_all, drop-drop, get_or_default, take_more, take_more_set, drop-set-lt, length-set, take-append-drop}
+use Rattle.std.proofs.lemmas.List.{take_all, drop_all, get_or_default, take_more, take_more_set}
 use Rattle.std.proofs.lemmas.Bool.{cases_lt, eq-eqb, ne_eqb, le-leb, lt-leb, and_from, and_left, and_right, cond-true, cond-false}
 use Rattle.codes.specs.Bits.{bits, val, spread, ends, trimmed}
 use Rattle.codes.specs.Table.{whole, behind, remaining, pad_behind}
@@ -91,24 +91,11 @@ module _ (w p : ℕ) (meant : List ℕ → Result (List ℕ) Fault) (bs : List �
   same_object m h = ap said (closed-ok (meant (take n (whole w bs))) (pad_behind w p bs) (length bs * 8 / w) (said s) (sym says ∙ h.0))
 
 -- an output that is filled from its front
-pub record Filled (bytes old out : List ℕ) (i : ℕ) : Type 0 where
-  pub front : take i out ≡ take i bytes
-  pub rest : drop i out ≡ drop i old
-  pub room : length out ≡ length old
+pub filled_more : (bytes out : List ℕ) (i : ℕ) → take i out ≡ take i bytes → (y : ℕ) → y ≡ get_or bytes i 0 → i < length bytes → i < length out → take (i + 1) (set out i y) ≡ take (i + 1) bytes
+filled_more bytes out i h y is in' room = take_more_set out i y room ∙ (λ j. h j ++ (is j ∷ [])) ∙ sym (take_more bytes i 0 in')
 
-pub fill_start : (bytes old : List ℕ) → Filled bytes old old 0
-fill_start bytes old = record { front = refl; rest = refl; room = refl }
-
-pub fill_more : {bytes old out : List ℕ} {i : ℕ} → Filled bytes old out i → (y : ℕ) → y ≡ get_or bytes i 0 → i < length bytes → i < length old → Filled bytes old (set out i y) (i + 1)
-fill_more {bytes} {old} {out} {i} h y is in' room = record {
-  front = take_more_set out i y (omega (arith, h.room)) ∙ (λ j. h.front j ++ (is j ∷ [])) ∙ sym (take_more bytes i 0 in');
-  rest = drop-set-lt (i + 1) out i y (omega arith) ∙ sym (drop-drop 1 i out) ∙ ap (drop 1) h.rest ∙ drop-drop 1 i old;
-  room = length-set out i y ∙ h.room;
-}
-
-pub fill_done : {bytes old out : List ℕ} {i : ℕ} → Filled bytes old out i → (n : ℕ) → n ≡ length bytes → i ≡ n → out ≡ bytes ++ drop n old
-fill_done {bytes} {old} {out} {i} h n e is =
-    sym (take-append-drop i out) ∙ (λ j. (h.front ∙ take_all i bytes (omega arith)) j ++ (h.rest ∙ ap (λ k. drop k old) is) j)
+pub filled_all : (bytes out : List ℕ) (i : ℕ) → take i out ≡ take i bytes → length out ≤ i → length out ≡ length bytes → out ≡ bytes
+filled_all bytes out i h end long = sym (take_all i out end) ∙ h ∙ take_all i bytes (omega arith)
 
 -- as the code has width and padding group from the interface
 pub kept_by : (w p w' p' n : ℕ) (bs : List ℕ) → w ≡ w' → p ≡ p' → take n (whole w bs) ≡ remaining w p bs → take n (whole w' bs) ≡ remaining w' p' bs

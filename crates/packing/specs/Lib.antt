@@ -3,3 +3,4 @@ pub mod Coded
 pub mod Widths
 pub mod Plain
 pub mod Rows
+pub mod Any

@@ -30,6 +30,12 @@ Packs k x old new (Err Size) = (Sized x → ⊥) × (new ≡ old)
 Packs k x old new (Err NotPermitted) = Sized x × (permitted k x ≡ false) × (new ≡ old)
 Packs k x old new (Err (TooShort n)) = Sized x × (permitted k x ≡ true) × Lacks (packed_code k x) old new n
 
+-- why a code does not take an object, before any output is asked for
+abbrev pub Declined : ℕ → List ℕ → PackFault → Type 0
+Declined k x Size = Sized x → ⊥
+Declined k x NotPermitted = Sized x × (permitted k x ≡ false)
+Declined k x (TooShort n) = ⊥
+
 -- an object x packed by the first permitted code of its kind
 abbrev pub PacksFirst : ℕ → List ℕ → List ℕ → List ℕ → Result Packed PackFault → Type 0
 PacksFirst kind x old new (Ok p) = (code_number p.code ≡ first_code kind x) × Packs (first_code kind x) x old new (Ok p.length)

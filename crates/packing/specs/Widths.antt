@@ -2,10 +2,10 @@
 use Rattle.std.specs.Prelude.{ℕ}
 use Rattle.codes.specs.declared.kind.Kind.{Kind}
 use Rattle.codes.specs.declared.kind.Kind.TheVariants.{Application, Compact, Utf8}
-use Rattle.packing.specs.declared.alphabet.Width.{Width}
-use Rattle.packing.specs.declared.alphabet.Width.TheVariants.{Four, Five, Six, Seven}
+use Rattle.packing.specs.declared.alphabet.Letters.{Letters}
+use Rattle.packing.specs.declared.alphabet.Letters.TheVariants.{Four, Five, Six, Seven}
 
-abbrev pub width_code : Width → ℕ
+abbrev pub width_code : Letters → ℕ
 width_code Four = 2
 width_code Five = 3
 width_code Six = 4

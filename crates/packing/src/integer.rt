@@ -1,13 +1,28 @@
 // The integer code: the value of decimal digits, in its fewest bytes.
-ghost use Rattle.std.specs.Prelude.{◌≡◌, ◌<◌, ◌≤◌, true, length, take, slice_index};
+ghost use Rattle.std.specs.Prelude.{◌≡◌, ◌+◌, ◌-◌, ◌^◌, ◌<◌, ◌≤◌, true, map, length, take, slice_index};
 ghost use Rattle.std.specs.Int.Digits.{digits_of, number_from_digits};
 ghost use Rattle.codes.specs.Table.{within, value, decimal, unpacked_integer, packed_code, unpacked_code};
 ghost use Rattle.packing.specs.Plain.{octets_sized, number_bytes, packed_bytes, bytes_by};
 
-use super::{Code, all_within};
+use super::code::Code;
+use super::groups::all_within;
+use super::widths::Width;
 use codes::Fault;
 
 const LARGEST: u64 = 9999999999999999999;
+
+// The number that digits write, each counted from the byte that stands for zero.
+fn number_from(base: u64, zero: u8, digits: &[u8]) -> u64
+    requires digits { (1 ≤ base) × (within zero (zero + base - 1) digits.now ≡ true) }
+    requires few { base ^ length digits.now ≤ 2 ^ 64 }
+    ensures { result ≡ number_from_digits base (map (λ b. b - zero) digits.now) }
+{
+    let mut v = 0u64;
+    for b in digits {
+        v = v * base + u64::from(*b - zero);
+    }
+    v
+}
 
 // The value of decimal digits.
 fn value_of(object: &[u8]) -> u64
@@ -15,11 +30,7 @@ fn value_of(object: &[u8]) -> u64
     requires few { length object.now ≤ 19 }
     ensures { result ≡ value object.now }
 {
-    let mut v = 0u64;
-    for i in 0..object.len() {
-        v = v * 10 + u64::from(object[i] - 0x30);
-    }
-    v
+    number_from(10, b'0', object)
 }
 
 // The number that the first n bytes write.
@@ -28,11 +39,7 @@ fn number_of(bytes: &[u8], n: usize) -> u64
     requires inside { n ≤ length bytes.now }
     ensures { result ≡ number_from_digits 256 (take n bytes.now) }
 {
-    let mut v = 0u64;
-    for i in 0..n {
-        v = v * 256 + u64::from(bytes[i]);
-    }
-    v
+    number_from(256, 0, &bytes[..n])
 }
 
 // How many digits a number has.
@@ -43,8 +50,9 @@ fn digits_in(base: u64, number: u64) -> usize
 {
     let mut v = number;
     let mut n = 0usize;
+    // Stays: a number has no digits to go through before they are counted.
     while v > 0 {
-        v = v / base;
+        v /= base;
         n += 1;
     }
     n
@@ -57,10 +65,8 @@ fn digit_at(base: u64, number: u64, i: usize) -> u8
     ensures { result ≡ slice_index (digits_of base number) i }
 {
     let mut v = number;
-    let mut k = digits_in(base, number);
-    while k > i + 1 {
-        v = v / base;
-        k -= 1;
+    for _ in i + 1..digits_in(base, number) {
+        v /= base;
     }
     (v % base) as u8
 }
@@ -86,7 +92,7 @@ fn decimal_at(number: u64, i: usize) -> u8
 }
 
 #[derive(Clone, Copy)]
-pub struct Integer;
+pub(crate) struct Integer;
 
 impl Code for Integer {
     ghost listed = { λ _. 1 };
@@ -105,8 +111,8 @@ impl Code for Integer {
 
     ghost unpacks = { unfold unpacked_code in λ c bs u. bytes_by unpacked_integer bs u };
 
-    fn width(&self) -> u32 {
-        8
+    fn width(&self) -> Width {
+        Width::BYTE
     }
 
     fn padding(&self) -> u8 {
@@ -114,10 +120,7 @@ impl Code for Integer {
     }
 
     fn suits(&self, object: &[u8]) -> bool {
-        if object.len() < 2 || 19 < object.len() {
-            return false;
-        }
-        all_within(0x30, 0x39, object) && object[0] != 0x30
+        (2..=19).contains(&object.len()) && all_within(b'0', b'9', object) && object[0] != b'0'
     }
 
     fn count(&self, object: &[u8]) -> usize {

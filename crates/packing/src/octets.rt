@@ -1,33 +1,41 @@
 // Plain octets: groups of eight bits, which are the bytes.
 ghost use Rattle.std.specs.Prelude.{◌≡◌, true, Ok};
+ghost use Rattle.codes.specs.Numbers.{code_number};
 ghost use Rattle.packing.specs.Coded.{is_plain};
 ghost use Rattle.packing.specs.Widths.{octets_code};
-ghost use Rattle.packing.specs.Plain.{octets_sized, plain, plain_packs, plain_unpacks};
+ghost use Rattle.packing.specs.Plain.{plain, octets_sized, plain_packs, plain_unpacks};
 
-use super::Code;
-use codes::{Fault, Kind};
+use super::code::Code;
+use super::widths::Width;
+use codes::{Compaction, Fault, Kind};
 
 #[derive(Clone, Copy)]
-pub struct Octets {
-    code: u8,
-    ghost ok: { is_plain code ≡ true },
+pub(crate) struct Octets {
+    code: Compaction,
+    ghost ok: { is_plain (code_number code) ≡ true },
 }
 
 impl Octets {
     /// The code of a kind that keeps the bytes.
-    pub fn of(kind: Kind) -> Self
-        ensures { result.code ≡ octets_code kind }
+    pub(crate) fn of(kind: Kind) -> Self
+        ensures { code_number result.code ≡ octets_code kind }
     {
         match kind {
-            Kind::Application => Octets { code: 0 },
-            Kind::Compact => Octets { code: 6 },
-            Kind::Utf8 => Octets { code: 7 },
+            Kind::Application => Octets {
+                code: Compaction::ApplicationDefined,
+            },
+            Kind::Compact => Octets {
+                code: Compaction::OctetString,
+            },
+            Kind::Utf8 => Octets {
+                code: Compaction::Utf8String,
+            },
         }
     }
 }
 
 impl Code for Octets {
-    ghost listed = { λ c. c.code };
+    ghost listed = { λ c. code_number c.code };
 
     ghost wide = { λ _. 8 };
 
@@ -39,12 +47,12 @@ impl Code for Octets {
 
     ghost sized = { λ _. octets_sized };
 
-    ghost packs = { λ c x h u. (u, plain_packs c.code x (plain c.code c.ok) u) };
+    ghost packs = { λ c x h u. (u, plain_packs (code_number c.code) x (plain (code_number c.code) c.ok) u) };
 
-    ghost unpacks = { λ c bs u. plain_unpacks c.code bs (plain c.code c.ok) u };
+    ghost unpacks = { λ c bs u. plain_unpacks (code_number c.code) bs (plain (code_number c.code) c.ok) u };
 
-    fn width(&self) -> u32 {
-        8
+    fn width(&self) -> Width {
+        Width::BYTE
     }
 
     fn padding(&self) -> u8 {

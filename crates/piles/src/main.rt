@@ -3,16 +3,16 @@
 
 mod declines;
 mod exercise;
+mod piles;
+mod printing;
 
 use bench::Bench;
 use declines::decline_all;
-use drivers::Driver;
-use exercise::{exercise_all, print_bytes, print_decline};
-use orders::{Bits, Bytes, bit_order, byte_order, twice};
+use piles::{PILES, Pile};
+use printing::{print_bytes, print_fault};
 use rehearsal::Rehearsal;
 use std::io;
 use tags::{Dump, Shape};
-use windows::Window;
 
 // Six blocks of four bytes; blocks 1 and 4 are locked.
 const DUMP: [u8; 33] = [
@@ -20,65 +20,33 @@ const DUMP: [u8; 33] = [
     17, 54, 91, 128, 165, 202, 239, 20, 57, 94,
 ];
 
-/// Each pile once, over a tag of its own.
-fn pile<D: Driver + Drop>(rt: &HostRuntime, which: u8, tag: D) -> io::Result<()> {
-    match which {
-        0 => exercise_all(rt, tag),
-        1 => exercise_all(rt, byte_order(tag)),
-        2 => exercise_all(rt, bit_order(tag)),
-        3 => exercise_all(rt, Window::over(tag, 1, 4)),
-        4 => exercise_all(rt, Window::over(tag, 4, 9)),
-        5 => exercise_all(rt, Window::over(tag, 6, 3)),
-        6 => exercise_all(rt, Window::over(tag, 9, 3)),
-        7 => exercise_all(rt, byte_order(bit_order(Window::over(tag, 1, 4)))),
-        8 => exercise_all(rt, Window::over(byte_order(bit_order(tag)), 1, 4)),
-        9 => exercise_all(rt, bit_order(Window::over(byte_order(tag), 2, 3))),
-        _ => deeper(rt, which, tag),
-    }
-}
-
-fn deeper<D: Driver + Drop>(rt: &HostRuntime, which: u8, tag: D) -> io::Result<()> {
-    match which {
-        10 => exercise_all(rt, twice(Bytes, tag)),
-        11 => exercise_all(rt, twice(Bits, tag)),
-        12 => exercise_all(rt, Window::whole(tag)),
-        13 => {
-            let inner = Window::over(bit_order(tag), 1, 4);
-            exercise_all(rt, Window::over(byte_order(inner), 1, 2))
-        }
-        _ => exercise_all(rt, Window::over(tag, 0, 0)),
-    }
-}
-
-fn over_bench(rt: &HostRuntime, which: u8) -> io::Result<()> {
+// The pile stands on a tag that is lent.
+fn over_bench(rt: &HostRuntime, pile: Pile) -> io::Result<()> {
     let mut memory = [0u8; 24];
     memory.copy_from_slice(&DUMP[9..33]);
     let mut locks = [false, true, false, false, true, false];
     let shape = Shape { count: 6, size: 4 };
     match Bench::new(shape, 9, &mut memory, &mut locks) {
-        Ok(tag) => pile(rt, which, tag)?,
-        Err(e) => print_decline(rt, e)?,
+        Ok(mut tag) => pile.exercise(rt, &mut tag)?,
+        Err(e) => print_fault(rt, "declined", e)?,
     }
     print_bytes(rt, "memory", &memory)?;
     println!(rt; "flags {locks:?}")
 }
 
-fn over_rehearsal(rt: &HostRuntime, which: u8) -> io::Result<()> {
-    match Dump::read(&DUMP) {
-        Ok(dump) => match Rehearsal::new(dump) {
-            Ok(tag) => pile(rt, which, tag),
-            Err(e) => print_decline(rt, e),
-        },
-        Err(e) => print_decline(rt, e),
+fn over_rehearsal(rt: &HostRuntime, pile: Pile) -> io::Result<()> {
+    match Dump::read(&DUMP).and_then(Rehearsal::new) {
+        Ok(tag) => pile.exercise(rt, tag),
+        Err(e) => print_fault(rt, "declined", e),
     }
 }
 
 fn main(rt: HostRuntime) -> io::Result<()> {
-    for which in 0..15 {
-        println!(rt; "bench {which}")?;
-        over_bench(&rt, which)?;
-        println!(rt; "rehearsal {which}")?;
-        over_rehearsal(&rt, which)?;
+    for (number, pile) in PILES.iter().enumerate() {
+        println!(rt; "bench {number}")?;
+        over_bench(&rt, *pile)?;
+        println!(rt; "rehearsal {number}")?;
+        over_rehearsal(&rt, *pile)?;
     }
     decline_all(&rt)
 }

@@ -1,5 +1,5 @@
 -- From the answers of the scan, the sweep and the identifiers to the answer of the check.
-use Rattle.std.proofs.Common.{◌≡◌, ℕ, ◌≤◌, Bool, true, false, cond, eqb, List, map, length, take, drop, Some, None, Ok, Err, Option, sym, refl, ap, ◌∙◌, arith, length-append}
+use Rattle.std.proofs.Common.{◌≡◌, ℕ, ◌<◌, ◌≤◌, Bool, true, false, cond, eqb, List, map, length, take, drop, Some, None, Ok, Err, Option, sym, refl, ap, ◌∙◌, arith, length-append}
 use Rattle.std.proofs.lemmas.List.{take_at}
 use Rattle.std.proofs.lemmas.Bool.{eq-eqb, ne_eqb, cond-true, cond-false}
 use Rattle.sets.specs.Parsing.{plain}
@@ -10,6 +10,7 @@ use Rattle.scan.specs.declared.views.SetRecord.{SetRecord}
 use Rattle.scan.specs.declared.tables.Tally.{Tally}
 use Rattle.scan.specs.Tables.{records, tally, short, filled}
 use Rattle.scan.specs.Tables as tables
+use Rattle.reading.specs.declared.memories.Memory as lent
 use Rattle.reading.specs.Checks.{counted, answer, after}
 
 abbrev small : Refusal
@@ -17,6 +18,10 @@ small = record { place = 2; flaw = plain 4 }
 
 abbrev shapeless : Refusal
 shapeless = record { place = 0; flaw = plain 2 }
+
+-- blocks that have bytes are those of the memory
+pub has-bytes : (b m : lent.Memory) → b ≡ m → 0 < b.size → m.size ≡ 0 → ⊥
+has-bytes b m e h z = omega (arith, ap (λ (q : lent.Memory). q.size) e)
 
 -- a scan that found no fault, in a table with room
 pub record Clean (room : ℕ) (xs : List ℕ) (t : Tally) : Type 0 where

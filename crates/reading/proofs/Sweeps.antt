@@ -1,34 +1,50 @@
 -- Sets by their records, and runs of locked blocks.
-use Rattle.std.proofs.Common.{◌≡◌, ℕ, ◌+◌, ◌/◌, ◌<◌, ◌≤◌, Bool, true, false, not, eqb, ltb, List, [], map, length, get_or, Some, None, sym, ap, ◌∙◌, subst, add-one, arith}
+use Rattle.std.proofs.Common.{◌≡◌, ℕ, zero, suc, ◌+◌, ◌/◌, ◌<◌, ◌≤◌, Bool, true, false, ◌&&◌, List, [], length, get_or, Some, None, Option, sym, refl, ap, ◌∙◌, subst, arith}
 use lib.ListN.{length-map}
-use Rattle.std.proofs.lemmas.List.{get_or-map, get_or_past, get_or_default}
+use Rattle.std.specs.List.{list_all, range_with_len}
+use Rattle.std.specs.Option.{MatchOption, IsSomeAnd, option_map}
+use Rattle.std.proofs.Math.Bool.{and_assoc}
+use Rattle.std.proofs.lemmas.List.{get_or-map, get_or_default}
 use Rattle.std.proofs.ByRecursion.{All-get_or}
-use Rattle.std.proofs.lemmas.Bool.{le-ltb, and_from}
-use Rattle.tags.specs.Dumps.{nonzero}
+use Rattle.codes.specs.declared.kind.Compaction.TheVariants.{ApplicationDefined}
 use Rattle.sets.specs.Sets.{bare, size}
 use Rattle.sets.specs.Scans.{Found, behind}
-use Rattle.sets.specs.Readings.{Memory, found, sealed, stray_block}
+use Rattle.sets.specs.Readings.{Memory, every, found, sealed, stray_block}
 use Rattle.sets.proofs.Sweeping.{found_inside, found_ascending, Swept, swept_none, met, cleared, set-ahead, passed, went, all-ahead}
-use Rattle.sets.proofs.Searching.{every-not}
 use Rattle.scan.specs.declared.views.SetRecord.{SetRecord}
 use Rattle.scan.specs.Views.{recorded}
 use Rattle.scan.specs.Tables.{records}
-use Rattle.reading.specs.Checks.{memory}
 use Rattle.reading.specs.Inner.{locked_run, FirstLocked}
 
--- the lock of a block
-pub lock_in : (locks : List ℕ) (k : ℕ) → k < length locks → not (eqb (get_or locks k 0) 0) ≡ get_or (map nonzero locks) k false
-lock_in locks k h = sym (get_or-map nonzero locks k 0 false h)
+-- a test of each number of a run
+every-first : (p : ℕ → Bool) (n : ℕ) → every p (suc n) ≡ (p 0 && every (λ i. p (suc i)) n)
+every-first p zero = and_true (p 0)
+  where
+    and_true : (b : Bool) → (true && b) ≡ (b && true)
+    and_true true = refl
+    and_true false = refl
+every-first p (suc n) = ap (λ b. b && p (suc n)) (every-first p n) ∙ and_assoc (p 0) (every (λ i. p (suc i)) n) (p (suc n))
 
-pub lock_past : (locks : List ℕ) (k : ℕ) → length locks ≤ k → ltb k (length locks) ≡ get_or (map nonzero locks) k false
-lock_past locks k h = le-ltb k (length locks) h ∙ sym (get_or_past (map nonzero locks) k false (omega (arith, length-map locks nonzero)))
+pub all-every : (p : ℕ → Bool) (a n : ℕ) → list_all p (range_with_len a n) ≡ every (λ i. p (a + i)) n
+all-every p a zero = refl
+all-every p a (suc n) =
+    let here : p a ≡ p (a + 0) = ap p (omega arith) in
+    let on : list_all p (range_with_len (a + 1) n) ≡ every (λ i. p (a + suc i)) n =
+    all-every p (a + 1) n ∙ ap (λ (q : ℕ → Bool). every q n) (λ k i. p (shift i k)) in
+    (λ i. here i && on i) ∙ sym (every-first (λ i. p (a + i)) n)
+  where
+    shift : (i : ℕ) → a + 1 + i ≡ a + suc i
+    shift i = omega arith
 
--- one byte more of a run
-pub run_more : (locks : List Bool) (b at i : ℕ) → locked_run locks b at i ≡ true → get_or locks ((at + i) / b) false ≡ true → locked_run locks b at (i + 1) ≡ true
-run_more locks b at i h e = ap (locked_run locks b at) (add-one i) ∙ and_from (locked_run locks b at i) (get_or locks ((at + i) / b) false) h e
+-- what an option was mapped to
+pub mapped : {A B : Type 0} (o : Option A) (r : Option B) (P : A → B → Type 0) (f : A → B) → ((a : A) (b : B) → P a b → b ≡ f a) → MatchOption o (r ≡ None) (λ a. IsSomeAnd r (P a)) → r ≡ option_map f o
+mapped None r P f by e = e
+mapped (Some a) None P f by e = absurd e
+mapped (Some a) (Some b) P f by e = ap Some (by a b e)
 
-pub run_stops : (locks : List Bool) (b at n i : ℕ) → i < n → get_or locks ((at + i) / b) false ≡ false → false ≡ locked_run locks b at n
-run_stops locks b at n i h e = sym (every-not (λ j. get_or locks ((at + j) / b) false) n i h e)
+pub map_again : {A B C : Type 0} (g : B → C) (f : A → B) (o : Option A) → option_map (λ a. g (f a)) o ≡ option_map g (option_map f o)
+map_again g f None = refl
+map_again g f (Some a) = refl
 
 -- the set of a record
 abbrev no_set : Found
@@ -51,21 +67,15 @@ pub ends-inside : (xs : List ℕ) (j : ℕ) → j < length (found xs) → behind
 ends-inside xs j h = All-get_or (λ f. behind f ≤ length xs) (found xs) j no_set h (found_inside xs)
 
 abbrev pub no_record : SetRecord
-no_record = record { number = 0; id_at = 0; id_len = 0; object_at = 0; object_len = 0; at = 0; size = 0; code = 0 }
+no_record = record { number = 0; id_at = 0; id_len = 0; object_at = 0; object_len = 0; at = 0; size = 0; code = ApplicationDefined }
 
 -- one turn of the sweep
-module _ (b : ℕ) (locks xs : List ℕ) (rs : List SetRecord) (all : rs ≡ records (found xs)) where
+module _ (m : Memory) (rs : List SetRecord) (all : rs ≡ records (found m.bytes)) where
   abbrev fs : List Found
-  fs = found xs
-
-  abbrev m : Memory
-  m = memory b locks xs
-
-  abbrev flags : List Bool
-  flags = map nonzero locks
+  fs = found m.bytes
 
   pub starts : Swept m fs 0 0
-  starts = swept_none m fs (found_ascending xs)
+  starts = swept_none m fs (found_ascending m.bytes)
 
   module _ (j from : ℕ) (h : Swept m fs j from) where
     module _ (in' : j < length rs) where
@@ -84,25 +94,29 @@ module _ (b : ℕ) (locks xs : List ℕ) (rs : List SetRecord) (all : rs ≡ rec
       size_is : r.size ≡ size f.set
       size_is = ap (λ (q : SetRecord). q.size) (record_at fs rs j no_record all in')
 
-      pub turn-fits : r.at + r.size ≤ length xs
-      turn-fits = omega (arith, at-is, size_is, ends-inside xs j inside)
+      pub turn-fits : r.at + r.size ≤ length m.bytes
+      turn-fits = omega (arith, at-is, size_is, ends-inside m.bytes j inside)
 
-      same-run : locked_run flags b r.at r.size ≡ sealed m f
-      same-run = λ i. locked_run flags b (at-is i) (size_is i)
+      same-run : locked_run m r.at r.size ≡ sealed m f
+      same-run = λ i. locked_run m (at-is i) (size_is i)
 
-      pub turn-met : (a : ℕ) → FirstLocked flags b from r.at (Some a) → Some (a / b) ≡ stray_block m fs
-      turn-met a w = met h f.at a (set-ahead h f inside (is_at fs j inside)) w.0 (omega (arith, at-is, w.1)) (omega (arith, ends-inside xs j inside)) w.2 w.3
+      pub turn-met : (a : ℕ) → FirstLocked m from r.at (Some a) → Some (a / m.size) ≡ stray_block m fs
+      turn-met a w = met h f.at a (set-ahead h f inside (is_at fs j inside)) w.0 (omega (arith, at-is, w.1)) (omega (arith, ends-inside m.bytes j inside)) w.2 w.3
 
-      pub turn-passed : locked_run flags b r.at r.size ≡ false → Swept m fs (j + 1) from
+      pub turn-passed : locked_run m r.at r.size ≡ false → Swept m fs (j + 1) from
       turn-passed e = passed h f inside (is_at fs j inside) (sym same-run ∙ e)
 
-      pub turn-went : locked_run flags b r.at r.size ≡ true → FirstLocked flags b from r.at None → Swept m fs (j + 1) (r.at + r.size)
+      pub turn-went : locked_run m r.at r.size ≡ true → FirstLocked m from r.at None → Swept m fs (j + 1) (r.at + r.size)
       turn-went e none =
           subst (Swept m fs (j + 1)) (λ i. sym at-is i + sym size_is i) (went h f inside (is_at fs j inside) (sym same-run ∙ e) (λ a low high. none a low (omega (arith, at-is))))
 
     -- behind the last set
-    pub end-met : (a : ℕ) → length rs ≤ j → FirstLocked flags b from (length xs) (Some a) → Some (a / b) ≡ stray_block m fs
-    end-met a done w = met h (length xs) a (all-ahead h (length xs) (omega (arith, count-is fs rs all))) w.0 w.1 (omega arith) w.2 w.3
+    end-met : (a : ℕ) → length rs ≤ j → FirstLocked m from (length m.bytes) (Some a) → Some (a / m.size) ≡ stray_block m fs
+    end-met a done w = met h (length m.bytes) a (all-ahead h (length m.bytes) (omega (arith, count-is fs rs all))) w.0 w.1 (omega arith) w.2 w.3
 
-    pub end-clear : length rs ≤ j → FirstLocked flags b from (length xs) None → None ≡ stray_block m fs
+    end-clear : length rs ≤ j → FirstLocked m from (length m.bytes) None → None ≡ stray_block m fs
     end-clear done none = cleared h none (omega (arith, count-is fs rs all))
+
+    pub end-is : length rs ≤ j → (o : Option ℕ) → FirstLocked m from (length m.bytes) o → option_map (λ a. a / m.size) o ≡ stray_block m fs
+    end-is done None w = end-clear done w
+    end-is done (Some a) w = end-met a done w

@@ -8,11 +8,15 @@ use Rattle.scan.specs.declared.views.SetRecord.{SetRecord}
 use Rattle.scan.specs.declared.tables.Tally.{Tally}
 use Rattle.scan.specs.Tables as tables
 use Rattle.reading.specs.declared.faults.ReadFault.{ReadFault}
+use Rattle.reading.specs.declared.memories.Memory as lent
 use Rattle.reading.specs.Faults.{read_refusal}
 
 -- a memory by its lock bytes, of which one that is not zero says locked
 abbrev pub memory : ℕ → List ℕ → List ℕ → Memory
 memory size locks bytes = record { size = size; locks = map nonzero locks; bytes = bytes }
+
+abbrev pub memory_of : lent.Memory → Memory
+memory_of m = memory m.size m.locks.now m.image.now
 
 -- the counts of a memory that reads as a list, or the refusal
 abbrev pub counted : Tally → Result Reading Refusal → Result Tally Refusal

@@ -1,28 +1,27 @@
 -- What the inner functions of the check answer.
-use Rattle.std.specs.Prelude.{◌≡◌, ℕ, ◌+◌, ◌/◌, ◌<◌, ◌≤◌, Bool, true, false, cond, List, [], ◌∷◌, length, get_or, take, drop, Some, None, Option, ◌==◌, slice_index_or}
-use Rattle.std.specs.List.{AllByRecursion}
+use Rattle.std.specs.Prelude.{◌≡◌, ℕ, ◌+◌, ◌<◌, ◌≤◌, Bool, true, false, List, take, Option, MatchOption}
+use Rattle.std.specs.List.{find, list_any, enumerate_from}
+use Rattle.std.specs.Option.{option_map}
 use Rattle.std.specs.Str.{bytes_eq}
-use Rattle.sets.specs.Readings.{every}
+use Rattle.sets.specs.Readings.{Memory, locked_at, every}
 use Rattle.scan.specs.declared.views.SetRecord.{SetRecord}
+use Rattle.scan.specs.Views.{content_in}
 
-abbrev pub locked_run : List Bool → ℕ → ℕ → ℕ → Bool
-locked_run locks size at long = every (λ i. get_or locks ((at + i) / size) false) long
+abbrev pub locked_run : Memory → ℕ → ℕ → Bool
+locked_run m at long = every (λ i. locked_at m (at + i)) long
 
 -- the lowest address of a run that lies in a locked block
-abbrev pub FirstLocked : List Bool → ℕ → ℕ → ℕ → Option ℕ → Type 0
-FirstLocked locks size from to None = (a : ℕ) → from ≤ a → a < to → slice_index_or locks (a / size) false ≡ false
-FirstLocked locks size from to (Some at) = (from ≤ at) × (at < to) × (slice_index_or locks (at / size) false ≡ true) × ((a : ℕ) → from ≤ a → a < at → slice_index_or locks (a / size) false ≡ false)
-
--- the content of the identifier of a set with a record
-abbrev pub content_in : List ℕ → SetRecord → List ℕ
-content_in xs r = cond (r.number == 0) (take r.id_len (drop r.id_at xs)) (r.number ∷ [])
+abbrev pub FirstLocked : Memory → ℕ → ℕ → Option ℕ → Type 0
+FirstLocked m from to r =
+    MatchOption r ((a : ℕ) → from ≤ a → a < to → locked_at m a ≡ false)
+    (λ at. (from ≤ at) × (at < to) × (locked_at m at ≡ true) × ((a : ℕ) → from ≤ a → a < at → locked_at m a ≡ false))
 
 abbrev pub same_content : List ℕ → SetRecord → SetRecord → Bool
 same_content xs a b = bytes_eq (content_in xs a) (content_in xs b)
 
--- the part of an identifier lies inside
-abbrev pub Inside : List ℕ → SetRecord → Type 0
-Inside xs r = r.id_at + r.id_len ≤ length xs
+-- whether the identifier of a record stands in one before its place, and the address of the first whose does
+abbrev pub stood_at : List ℕ → List SetRecord → ℕ × SetRecord → Bool
+stood_at xs rs p = list_any (λ g. same_content xs g p.1) (take p.0 rs)
 
-abbrev pub AllInside : List ℕ → List SetRecord → Type 0
-AllInside xs rs = AllByRecursion (Inside xs) rs
+abbrev pub first_again : List ℕ → List SetRecord → Option ℕ
+first_again xs rs = option_map (λ p. p.1.at) (find (stood_at xs rs) (enumerate_from 0 rs))

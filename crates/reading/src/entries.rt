@@ -1,15 +1,14 @@
 // What one set says.
 ghost use Rattle.std.specs.Prelude.{length};
-ghost use Rattle.reading.specs.Checks.{memory};
+ghost use Rattle.reading.specs.Checks.{memory_of};
 ghost use Rattle.reading.specs.Entries.{Entered};
 
-use super::blocks::all_locked;
-use codes::Compaction;
+use super::memories::Memory;
 use packing::unpack;
 use scan::{Identifier, Scanned, SetRecord, step};
 
 /// A set with its object unpacked.
-#[derive(Clone, Copy)]
+#[derive(Clone, Copy, Debug)]
 pub struct Entry<'i, 's> {
     pub place: SetRecord,
     pub sealed: bool,
@@ -17,54 +16,22 @@ pub struct Entry<'i, 's> {
     pub object: &'s [u8],
 }
 
-// The work of `entry_at`.
-fn entry_of<'i, 's>(
-    image: &'i [u8],
-    locks: &[u8],
-    size: usize,
-    at: usize,
-    scratch: &'s mut [u8],
-) -> Option<Entry<'i, 's>>
-    ensures cases { Entered (memory size locks.now image.now) at (length scratch.old) result }
-{
-    if size == 0 {
-        return None;
+impl<'i> Memory<'i> {
+    /// What the set at an address says, its object unpacked to the front of `scratch`. There is none where no set stands
+    /// at the address, where the object is longer than the scratch, or where blocks have no bytes.
+    pub fn entry_at<'s>(self, at: usize, scratch: &'s mut [u8]) -> Option<Entry<'i, 's>>
+        ensures cases { Entered (memory_of self.entry) at (length scratch.old) result }
+    {
+        let blocks = self.in_blocks()?;
+        let Scanned::Set(set) = step(self.image, at).ok()? else {
+            return None;
+        };
+        let long = unpack(set.place.code, set.object, scratch).ok()?;
+        Some(Entry {
+            place: set.place,
+            sealed: blocks.is_sealed(&set.place),
+            identifier: set.identifier,
+            object: &scratch[..long],
+        })
     }
-    let seen = match step(image, at) {
-        Ok(seen) => seen,
-        Err(_) => return None,
-    };
-    let set = match seen {
-        Scanned::Set(set) => set,
-        Scanned::End => return None,
-        Scanned::Filler => return None,
-    };
-    let place = set.place;
-    let Some(code) = Compaction::from_number(place.code) else {
-        unreachable()
-    };
-    let long = match unpack(code, set.object, scratch) {
-        Ok(long) => long,
-        Err(_) => return None,
-    };
-    Some(Entry {
-        place,
-        sealed: all_locked(locks, size, place.at, place.size),
-        identifier: set.identifier,
-        object: &scratch[0..long],
-    })
-}
-
-/// What the set at an address says, its object unpacked to the front of `scratch`. There is none where no set stands at
-/// the address, where the object is longer than the scratch, or where blocks have no bytes.
-pub fn entry_at<'i, 's>(
-    image: &'i [u8],
-    locks: &[u8],
-    size: usize,
-    at: usize,
-    scratch: &'s mut [u8],
-) -> Option<Entry<'i, 's>>
-    ensures cases { Entered (memory size locks.now image.now) at (length scratch.old) result }
-{
-    entry_of(image, locks, size, at, scratch)
 }

@@ -4,9 +4,9 @@ ghost use Rattle.reading.specs.declared.faults.ReadFault.TheVariants.{Scan};
 ghost use Rattle.reading.specs.Faults.{read_number, read_place, read_group, read_layer};
 
 use scan::ScanFault;
-use tags::Layer;
+use tags::{Layer, Refusal};
 
-#[derive(Clone, Copy)]
+#[derive(Clone, Copy, Debug, PartialEq, Eq)]
 pub enum ReadFault {
     /// Blocks of no bytes.
     Shape,
@@ -25,10 +25,10 @@ impl From<ScanFault> for ReadFault {
     }
 }
 
-impl ReadFault {
-    pub fn number(self) -> u8
-        ensures value { result ≡ read_number self }
-    {
+impl Refusal for ReadFault {
+    ghost told = { λ f. record { number = read_number f; place = read_place f; group = read_group f; layer = read_layer f } };
+
+    fn number(&self) -> u8 {
         match self {
             ReadFault::Shape => 2,
             ReadFault::Scan(fault) => fault.number(),
@@ -37,29 +37,23 @@ impl ReadFault {
         }
     }
 
-    pub fn place(self) -> usize
-        ensures value { result ≡ read_place self }
-    {
+    fn place(&self) -> usize {
         match self {
             ReadFault::Shape => 0,
             ReadFault::Scan(fault) => fault.place(),
-            ReadFault::Stray(block) => block,
-            ReadFault::Repeat(at) => at,
+            ReadFault::Stray(block) => *block,
+            ReadFault::Repeat(at) => *at,
         }
     }
 
-    pub fn group(self) -> usize
-        ensures value { result ≡ read_group self }
-    {
+    fn group(&self) -> usize {
         match self {
             ReadFault::Scan(fault) => fault.group(),
             ReadFault::Shape | ReadFault::Stray(_) | ReadFault::Repeat(_) => 0,
         }
     }
 
-    pub fn layer(self) -> Layer
-        ensures value { result ≡ read_layer self }
-    {
+    fn layer(&self) -> Layer {
         match self {
             ReadFault::Scan(fault) => fault.layer(),
             ReadFault::Shape | ReadFault::Stray(_) | ReadFault::Repeat(_) => Layer::Call,

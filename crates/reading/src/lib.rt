@@ -5,8 +5,9 @@ mod blocks;
 mod checks;
 mod entries;
 mod faults;
+mod memories;
 mod repeats;
 
-pub use checks::check;
-pub use entries::{Entry, entry_at};
+pub use entries::Entry;
 pub use faults::ReadFault;
+pub use memories::Memory;

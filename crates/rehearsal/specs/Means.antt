@@ -5,7 +5,7 @@ use Rattle.tags.specs.declared.faults.DumpFault.TheVariants.{Shape}
 use Rattle.tags.specs.Tags.{Tag}
 use Rattle.tags.specs.Dumps.{dump_means}
 use Rattle.tables.specs.Tables.{has_room, under}
-use Rattle.rehearsal.specs.declared.Rehearsal.{Rehearsal}
+use Rattle.rehearsal.specs.declared.parts.Rehearsal.{Rehearsal}
 
 abbrev pub rehearsal_fault : Tag → Option DumpFault
 rehearsal_fault t = cond (has_room t.count t.size) None (Some Shape)

@@ -1,25 +1,21 @@
 // The rehearsal tag: a driver that only reads its dump, and keeps what is changed in a table.
 #![tactic(auto)]
 
-ghost use Rattle.std.specs.Prelude.{◌≡◌, length, Some, None, MatchResult};
+ghost use Rattle.std.specs.Prelude.{◌≡◌, ◌<◌, length, Some, None, MatchResult};
 ghost use Rattle.tags.specs.Dumps.{dump_means};
 ghost use Rattle.tags.proofs.Meant.{dump_shaped};
 ghost use Rattle.tables.specs.Tables.{lock_under};
 ghost use Rattle.tables.proofs.Under.{under-shaped};
-ghost use Rattle.drivers.specs.Questions.{read_answer, read_buffer};
+ghost use Rattle.drivers.specs.Questions.{block};
 ghost use Rattle.rehearsal.specs.Means.{rehearsal_fault, rehearsal_tag};
 
-use drivers::{Driver, DriverFault};
+use drivers::{Driver, DriverFault, check_block, check_buffer};
 use tables::Table;
 use tags::{Dump, DumpFault, Shape};
 
-/// The tag of a dump, changed in a table alone: the type lends the dump's bytes only to look at.
-#[derive(Drop)]
-pub struct Rehearsal<'a> {
-    dump: Dump<'a>,
-    system: u8,
-    table: Table,
-}
+mod parts;
+
+pub use parts::Rehearsal;
 
 impl<'a> Rehearsal<'a> {
     /// The tag of `dump`, nothing changed. Declined is a shape that the table has no room for.
@@ -46,24 +42,18 @@ impl Rehearsal<'_> {
         self.dump.locked(k) || self.table.locked(k)
     }
 
-    // What `read` does, by a tag that is only looked at.
-    fn fetch(&self, k: usize, out: &mut [u8]) -> Result<(), DriverFault>
-        ensures answer { result ≡ read_answer (rehearsal_tag self.now) k (length out.old) }
-        ensures after { out.new ≡ read_buffer (rehearsal_tag self.now) k out.old }
+    // Block `k`: what was written to it, or the dump's.
+    fn block(&self, k: usize) -> &[u8]
+        requires { k < (rehearsal_tag self.now).count }
+        ensures value { result.now ≡ block (rehearsal_tag self.now) k }
+        ensures shape { length result.now ≡ (rehearsal_tag self.now).size }
     {
-        let shape = self.shape();
-        if k >= shape.count {
-            return Err(DriverFault::NoBlock(k));
+        let size = self.dump.shape().size;
+        if let Some(block) = self.table.fetch(k, size) {
+            return block;
         }
-        if out.len() != shape.size {
-            return Err(DriverFault::WrongBuffer(k));
-        }
-        if self.table.fetch(k, out) {
-            return Ok(());
-        }
-        let at = k * shape.size;
-        out.copy_from_slice(&self.dump.content()[at..at + shape.size]);
-        Ok(())
+        let at = k * size;
+        &self.dump.content()[at..at + size]
     }
 }
 
@@ -73,12 +63,7 @@ impl Driver for Rehearsal<'_> {
     ghost shaped = { λ s. under-shaped (dump_means s.dump) s.table s.system (dump_shaped s.dump) };
 
     fn shape(&self) -> Shape {
-        let shape = self.dump.shape();
-        if Table::has_room(shape) {
-            shape
-        } else {
-            Shape { count: 0, size: 0 }
-        }
+        self.dump.shape()
     }
 
     fn system(&mut self) -> Result<u8, DriverFault> {
@@ -86,36 +71,28 @@ impl Driver for Rehearsal<'_> {
     }
 
     fn locked(&mut self, k: usize) -> Result<bool, DriverFault> {
-        if k >= self.shape().count {
-            return Err(DriverFault::NoBlock(k));
-        }
+        check_block(self.dump.shape(), k)?;
         Ok(self.is_locked(k))
     }
 
     fn read(&mut self, k: usize, out: &mut [u8]) -> Result<(), DriverFault> {
-        self.fetch(k, out)
+        check_buffer(self.dump.shape(), k, out.len())?;
+        out.copy_from_slice(self.block(k));
+        Ok(())
     }
 
     fn write(&mut self, k: usize, from: &[u8]) -> Result<(), DriverFault> {
-        let shape = self.shape();
-        if k >= shape.count {
-            return Err(DriverFault::NoBlock(k));
-        }
-        if from.len() != shape.size {
-            return Err(DriverFault::WrongBuffer(k));
-        }
+        check_buffer(self.dump.shape(), k, from.len())?;
         if self.is_locked(k) {
             return Err(DriverFault::Locked(k));
         }
         // There is a row for each block.
-        let _ = self.table.put(k, from);
+        self.table.put(k, from).unwrap();
         Ok(())
     }
 
     fn lock(&mut self, k: usize) -> Result<(), DriverFault> {
-        if k >= self.shape().count {
-            return Err(DriverFault::NoBlock(k));
-        }
+        check_block(self.dump.shape(), k)?;
         self.table.lock(k);
         Ok(())
     }

@@ -118,10 +118,6 @@ pub room : (F : Format) (m m' : Memory) (l : List Entry) (r : Laid F m' l) → S
 room F m m' l r sh v p q gap =
     subst (λ es. p * m.size + total es ≤ q * m.size) (sym (gap-rival F m m' l r sh v p q gap)) (gap-room F m sh p q gap m'.bytes v.long r.tiles (walk-rival F m m' l r v))
 
-pub room_of_part : (F : Format) (m m' : Memory) (l₀ l : List Entry) (r₀ : Laid F m l₀) (r : Laid F m' l) → Rival m m' → (p q : ℕ) → Run m p q → p * m.size + total (part (below (p * m.size) (sealed_sets F (locked_at m) 0 r₀.tiles)) l) ≤ q * m.size
-room_of_part F m m' l₀ l r₀ r v p q gap =
-    subst (λ es. p * m.size + total es ≤ q * m.size) (gap-is-part F m m' l₀ l r₀ r v p q gap) (room F m m' l r r₀.shaped v p q gap)
-
 pub room_readied : (F : Format) (m m' : Memory) (l₀ l : List Entry) (r₀ : Laid F m l₀) (r : Laid F m' l) → Rival m m' → (p q : ℕ) → Run m p q → (xs : List Entry) (e : Entry) (ys : List Entry) → part (below (p * m.size) (sealed_sets F (locked_at m) 0 r₀.tiles)) l ≡ xs ++ (e ∷ ys) → Whole F m.size e.identifier 0 r.tiles → p * m.size + whole m.size (total xs) + whole m.size (least e) + total ys ≤ q * m.size
 room_readied F m m' l₀ l r₀ r v p q gap xs e ys is alone =
     omega (arith, whole_shift m.size p (total xs) r₀.shaped.some, gap_readied F m r₀.shaped p q gap m'.bytes v.long r.tiles (walk-rival F m m' l r v) xs e ys (part-rival F m l₀ r₀ p m' l r v ∙ is) alone)

@@ -32,12 +32,6 @@ whole-blocks b n some =
     ap (λ x. n + x) rest ∙ (let same : n + (b - r) ≡ (q + 1) * b = omega arith in same) ∙ ap (λ x. x * b) (sym up))
     (cases_eq r 0)
 
--- without a block size nothing is added
-pub whole-none : (b n : ℕ) → b ≡ 0 → n ≡ whole b n
-whole-none b n z =
-    let all : b - n % b ≡ b = omega arith in
-    sym (ap (λ x. n + x % b) all ∙ ap (λ x. n + x) (mod_self b) ∙ (let none : n + 0 ≡ n = omega arith in none))
-
 pub whole_mono : (b m n : ℕ) → 0 < b → m ≤ n → whole b m ≤ whole b n
 whole_mono b m n some h =
     let up : blocks b m * b ≤ blocks b n * b = mul-le-mul_right b (le-div (blocks b m) (n + (b - 1)) b some (omega (arith, div-mul-le_self (m + (b - 1)) b))) in

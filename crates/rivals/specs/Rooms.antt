@@ -1,19 +1,16 @@
 -- The part of a list that stands in a gap, and the room that it needs.
 use Rattle.std.specs.Prelude.{◌≡◌, ℕ, zero, suc, ◌+◌, ◌-◌, ◌%◌, ◌≤◌, Bool, cond, List, [], ◌∷◌, length, Ok}
 use Rattle.std.specs.List.{AllByRecursion}
-use Rattle.codes.specs.Table.{code, packed_code, first_code}
+use Rattle.codes.specs.Table.{code}
 use Rattle.sets.specs.Sets.{content, Set, size}
-use Rattle.sets.specs.Writing.{shortest}
 use Rattle.sets.specs.Laws.{Proper}
 use Rattle.sets.specs.Objects.{unpacked}
+use Rattle.sets.specs.Objects as objects
 use Rattle.sets.specs.Readings.{Memory, Entry, Reading, said, reads}
 
--- The form of an entry with so many bytes of offset and pad: the shortest identifier, the first code of its kind that is
--- permitted. Without offset it is the smallest.
+-- the form of an entry with so many bytes of offset and pad
 abbrev pub form : ℕ → Entry → Set
-form extra e =
-    let code = first_code e.kind e.object in
-    record { extra = extra; name = shortest e.identifier; code = code; object = packed_code code e.object }
+form extra e = objects.form extra e.identifier e.kind e.object
 
 -- the bytes of the smallest form, and of those of some entries together
 unfoldable pub least : Entry → ℕ
@@ -61,6 +58,9 @@ seal_count (e ∷ es) = cond e.sealed (suc (seal_count es)) (seal_count es)
 abbrev pub after_last : List Entry → List Entry
 after_last es = part (seal_count es) es
 
--- n bytes and those up to the next start of a block of b bytes, none where they end at one
+-- the bytes up to the next start of a block of b bytes, none at a start; and n bytes with those
+abbrev pub to_block : ℕ → ℕ → ℕ
+to_block b n = (b - n % b) % b
+
 abbrev pub whole : ℕ → ℕ → ℕ
-whole b n = n + (b - n % b) % b
+whole b n = n + to_block b n

@@ -55,8 +55,8 @@ pub fn whole_blocks(size: u16, n: u32) -> u64
     ensures value { result ≡ whole size n }
     ensures needs { ReadiedNeeds }
 {
-    if size == 0 {
-        return u64::from(n);
+    match size {
+        0 => u64::from(n),
+        _ => u64::from(n).next_multiple_of(u64::from(size)),
     }
-    u64::from(n) + (u64::from(size) - u64::from(n) % u64::from(size)) % u64::from(size)
 }

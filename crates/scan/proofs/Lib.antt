@@ -1,3 +1,5 @@
+pub mod Codes
 pub mod Records
 pub mod Shown
+pub mod Stepping
 pub mod Turns

@@ -1,5 +1,7 @@
 -- What a scan of an image answers, and what it leaves in the table.
 use Rattle.std.specs.Prelude.{◌≡◌, ℕ, ◌/◌, Bool, cond, List, ◌++◌, map, length, drop, Some, None, Ok, Err, Option, Result, nat_lt}
+use Rattle.std.specs.List.{AllByRecursion}
+use Rattle.codes.specs.Numbers.{code_number}
 use Rattle.sets.specs.Parsing.{plain}
 use Rattle.sets.specs.Scans.{Refusal, scan, Found, free}
 use Rattle.sets.specs.Tilings.{Tiled, Halts}
@@ -9,7 +11,7 @@ use Rattle.scan.specs.declared.faults.ScanFault.{ScanFault}
 use Rattle.scan.specs.declared.views.SetRecord.{SetRecord}
 use Rattle.scan.specs.declared.tables.Tally.{Tally}
 use Rattle.scan.specs.Faults.{scan_refusal}
-use Rattle.scan.specs.Views.{recorded}
+use Rattle.scan.specs.Views.{code_of, recorded}
 
 abbrev pub records : List Found → List SetRecord
 records fs = map (λ f. recorded f.at f.set) fs
@@ -39,6 +41,10 @@ filled rs table = rs ++ drop (length rs) table
 
 abbrev pub after : List ℕ → List SetRecord → List SetRecord
 after xs table = cond (short (length table) xs) table (filled (records (found xs)) table)
+
+-- the record of each set tells the number of its code
+abbrev pub CodesTold : List ℕ → Type 0
+CodesTold xs = AllByRecursion (λ f. code_number (code_of f.set.code) ≡ f.set.code) (found xs)
 
 -- the bytes of an image are tiles, end to end, up to its end or to the first fault
 abbrev pub Tiling : List ℕ → Type 0

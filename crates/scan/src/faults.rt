@@ -1,13 +1,13 @@
 // What a scan finds at fault.
 ghost use Rattle.std.specs.Prelude.{◌≡◌};
-ghost use Rattle.scan.specs.declared.faults.ScanFault.TheVariants.{Code};
+ghost use Rattle.scan.specs.declared.faults.ScanFault.TheVariants.{Set, Code};
 ghost use Rattle.scan.specs.Faults.{malformed_number, scan_number, scan_place, scan_group, scan_layer};
 
 use codes::Fault;
-use tags::Layer;
+use tags::{Layer, Refusal};
 
 /// What is wrong with the bytes of a set, in the order in which they are met.
-#[derive(Clone, Copy)]
+#[derive(Clone, Copy, Debug, PartialEq, Eq)]
 pub enum Malformed {
     /// Nibble 0 in a precursor that is neither 00 nor 80.
     Nibble,
@@ -38,40 +38,41 @@ impl Malformed {
     }
 }
 
-/// The address of a set, and what is wrong with its bytes.
-#[derive(Clone, Copy)]
-pub struct SetAt {
+/// The address of a set, and what is at fault there.
+#[derive(Clone, Copy, Debug, PartialEq, Eq)]
+pub struct At<F> {
     pub at: usize,
-    pub fault: Malformed,
+    pub fault: F,
 }
 
-/// The address of a set, and what its code is at fault for.
-#[derive(Clone, Copy)]
-pub struct CodeAt {
-    pub at: usize,
-    pub fault: Fault,
-}
-
-#[derive(Clone, Copy)]
+#[derive(Clone, Copy, Debug, PartialEq, Eq)]
 pub enum ScanFault {
     /// The table has fewer records than a third of the image's bytes, which is the most sets there can be.
     Table,
-    Set(SetAt),
-    Code(CodeAt),
+    Set(At<Malformed>),
+    Code(At<Fault>),
 }
 
-impl From<CodeAt> for ScanFault {
+impl From<At<Malformed>> for ScanFault {
+    ghost from_gives = { λ a r. r ≡ Set a };
+
+    fn from(fault: At<Malformed>) -> ScanFault {
+        ScanFault::Set(fault)
+    }
+}
+
+impl From<At<Fault>> for ScanFault {
     ghost from_gives = { λ a r. r ≡ Code a };
 
-    fn from(fault: CodeAt) -> ScanFault {
+    fn from(fault: At<Fault>) -> ScanFault {
         ScanFault::Code(fault)
     }
 }
 
-impl ScanFault {
-    pub fn number(self) -> u8
-        ensures value { result ≡ scan_number self }
-    {
+impl Refusal for ScanFault {
+    ghost told = { λ f. record { number = scan_number f; place = scan_place f; group = scan_group f; layer = scan_layer f } };
+
+    fn number(&self) -> u8 {
         match self {
             ScanFault::Table => 4,
             ScanFault::Set(a) => a.fault.number(),
@@ -79,9 +80,7 @@ impl ScanFault {
         }
     }
 
-    pub fn place(self) -> usize
-        ensures value { result ≡ scan_place self }
-    {
+    fn place(&self) -> usize {
         match self {
             ScanFault::Table => 2,
             ScanFault::Set(a) => a.at,
@@ -89,19 +88,14 @@ impl ScanFault {
         }
     }
 
-    pub fn group(self) -> usize
-        ensures value { result ≡ scan_group self }
-    {
+    fn group(&self) -> usize {
         match self {
-            ScanFault::Table => 0,
-            ScanFault::Set(_) => 0,
+            ScanFault::Table | ScanFault::Set(_) => 0,
             ScanFault::Code(a) => a.fault.group(),
         }
     }
 
-    pub fn layer(self) -> Layer
-        ensures value { result ≡ scan_layer self }
-    {
+    fn layer(&self) -> Layer {
         match self {
             ScanFault::Table => Layer::Call,
             ScanFault::Set(_) => Layer::Scan,

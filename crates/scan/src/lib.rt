@@ -7,7 +7,7 @@ mod steps;
 mod tables;
 mod views;
 
-pub use faults::{CodeAt, Malformed, ScanFault, SetAt};
+pub use faults::{At, Malformed, ScanFault};
 pub use parts::whole_arcs;
 pub use steps::step;
 pub use tables::{Tally, scan_image};

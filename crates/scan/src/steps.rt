@@ -6,20 +6,20 @@ ghost use Rattle.sets.specs.Scans.{next};
 ghost use Rattle.sets.specs.Objects.{unpacked};
 ghost use Rattle.sets.specs.Laws.{SmallestComesBack};
 ghost use Rattle.scan.specs.Views.{told, Shows};
-ghost use Rattle.scan.specs.Inner.{viewed, Views, framed, Frames, Examined};
+ghost use Rattle.scan.specs.Inner.{framed, Frames};
 
-use super::faults::{CodeAt, Malformed, ScanFault, SetAt};
+use super::faults::{At, Malformed, ScanFault};
 use super::parts::{read_identifier, read_length, read_offset};
 use super::views::{Scanned, SetRecord, SetView};
 use codes::Compaction;
 use packing::measure;
 
 // A set whose precursor has a nibble.
-fn read_set<'a>(image: &'a [u8], at: usize) -> Result<SetView<'a>, Malformed>
+fn read_set<'a>(image: &'a [u8], at: usize) -> Result<Scanned<'a>, Malformed>
     requires inside { at < length image.now }
     requires nibble { 1 ≤ slice_index image.now at % 16 }
-    ensures value { viewed result ≡ parsing.told (body (slice_index image.now at) (drop (at + 1) image.now)) }
-    ensures cases { Views at result }
+    ensures value { framed result ≡ parsing.told (body (slice_index image.now at) (drop (at + 1) image.now)) }
+    ensures cases { Frames at result }
 {
     let precursor = image[at];
     let offset = read_offset(image, at + 1, precursor)?;
@@ -35,21 +35,21 @@ fn read_set<'a>(image: &'a [u8], at: usize) -> Result<SetView<'a>, Malformed>
         return Err(Malformed::Past);
     }
     let place = SetRecord {
-        number: id.name.number(),
-        id_at: id.name.part_at(id.next),
-        id_len: id.name.len(),
+        number: id.value.number(),
+        id_at: id.value.part_at(id.next),
+        id_len: id.value.len(),
         object_at: from,
         object_len: long.value,
         at,
         size: end + pad - at,
-        code: precursor / 16 % 8,
+        code: Compaction::try_from(precursor / 16 % 8).unwrap(),
     };
-    Ok(SetView {
+    Ok(Scanned::Set(SetView {
         place,
         extra: offset.value,
-        identifier: id.name,
+        identifier: id.value,
         object: &image[from..end],
-    })
+    }))
 }
 
 // What stands at an address, its code not looked at.
@@ -66,42 +66,7 @@ fn frame<'a>(image: &'a [u8], at: usize) -> Result<Scanned<'a>, Malformed>
     if image[at] % 16 == 0 {
         return Err(Malformed::Nibble);
     }
-    let set = read_set(image, at)?;
-    Ok(Scanned::Set(set))
-}
-
-// How long the object of the set at an address is, unpacked.
-fn examine(at: usize, code: u8, object: &[u8]) -> Result<usize, CodeAt>
-    requires { code ≤ 7 }
-    ensures cases { Examined at code object.now result }
-{
-    let Some(compaction) = Compaction::from_number(code) else {
-        unreachable()
-    };
-    match measure(compaction, object) {
-        Ok(long) => Ok(long),
-        Err(fault) => Err(CodeAt { at, fault }),
-    }
-}
-
-// The work of `step`.
-fn look<'a>(image: &'a [u8], at: usize) -> Result<Scanned<'a>, ScanFault>
-    ensures value { told result ≡ next unpacked (drop at image.now) }
-    ensures cases { Shows image.now at result }
-    ensures written { SmallestComesBack }
-{
-    let seen = match frame(image, at) {
-        Ok(seen) => seen,
-        Err(fault) => return Err(ScanFault::Set(SetAt { at, fault })),
-    };
-    match seen {
-        Scanned::End => Ok(Scanned::End),
-        Scanned::Filler => Ok(Scanned::Filler),
-        Scanned::Set(set) => {
-            examine(at, set.place.code, set.object)?;
-            Ok(Scanned::Set(set))
-        }
-    }
+    read_set(image, at)
 }
 
 /// What stands at an address, or the first fault of the set there: 7 to 12 in the order of its bytes, its code last.
@@ -111,5 +76,9 @@ pub fn step<'a>(image: &'a [u8], at: usize) -> Result<Scanned<'a>, ScanFault>
     ensures cases { Shows image.now at result }
     ensures written { SmallestComesBack }
 {
-    look(image, at)
+    let seen = frame(image, at).map_err(|fault| At { at, fault })?;
+    if let Scanned::Set(set) = seen {
+        measure(set.place.code, set.object).map_err(|fault| At { at, fault })?;
+    }
+    Ok(seen)
 }

@@ -3,29 +3,33 @@ ghost use Rattle.std.specs.Prelude.{◌≡◌, length};
 ghost use Rattle.sets.specs.Scans.{scan};
 ghost use Rattle.sets.specs.Objects.{unpacked};
 ghost use Rattle.sets.specs.Laws.{TilesScan};
-ghost use Rattle.scan.specs.Tables.{answered, answer, after, Tiling};
+ghost use Rattle.scan.specs.Tables.{answered, answer, after, CodesTold, Tiling};
 
 use super::faults::ScanFault;
 use super::steps::step;
 use super::views::{Scanned, SetRecord};
 
 /// How many sets an image holds, and how many bytes are free behind the last.
-#[derive(Clone, Copy)]
+#[derive(Clone, Copy, Debug, PartialEq, Eq)]
 pub struct Tally {
     pub sets: usize,
     pub free: usize,
 }
 
-// The work of `scan_image`.
-fn fill_table(image: &[u8], table: &mut [SetRecord]) -> Result<Tally, ScanFault>
+/// Fills the front of the table with the records of the image's sets: all of them, or those before the first fault.
+/// A set has three bytes or more, so a table of a third of the image's bytes has room for all; a shorter one is
+/// refused and left as it was.
+pub fn scan_image(image: &[u8], table: &mut [SetRecord]) -> Result<Tally, ScanFault>
     ensures value { answered result ≡ answer (length table.old) image.now }
     ensures after { table.new ≡ after image.now table.old }
+    ensures codes { CodesTold image.now }
     ensures tiling { Tiling image.now }
     ensures tiled { TilesScan }
 {
     if table.len() < image.len() / 3 {
         return Err(ScanFault::Table);
     }
+    // Stays: no plainer by the table's records, since the scan ends by its image, whose tiles are more than its sets.
     let mut at = 0;
     let mut sets = 0;
     let mut used = 0;
@@ -44,16 +48,4 @@ fn fill_table(image: &[u8], table: &mut [SetRecord]) -> Result<Tally, ScanFault>
             }
         }
     }
-}
-
-/// Fills the front of the table with the records of the image's sets: all of them, or those before the first fault.
-/// A set has three bytes or more, so a table of a third of the image's bytes has room for all; a shorter one is
-/// refused and left as it was.
-pub fn scan_image(image: &[u8], table: &mut [SetRecord]) -> Result<Tally, ScanFault>
-    ensures value { answered result ≡ answer (length table.old) image.now }
-    ensures after { table.new ≡ after image.now table.old }
-    ensures tiling { Tiling image.now }
-    ensures tiled { TilesScan }
-{
-    fill_table(image, table)
 }

@@ -1,11 +1,16 @@
 // What the scan shows: parts of the image, and plain records of where they stand.
 ghost use Rattle.std.specs.Prelude.{◌≡◌, ◌≤◌, length};
 ghost use Rattle.sets.specs.Sets.{number, part};
-ghost use Rattle.scan.specs.Views.{name_of};
+ghost use Rattle.std.specs.Str.{bytes_eq};
+ghost use Rattle.scan.specs.Views.{name_of, content_in};
 ghost use Rattle.scan.specs.Inner.{begin};
 
+use codes::Compaction;
+use std::slice;
+
 /// Where a set and its parts stand in the image.
-#[derive(Clone, Copy)]
+// Stays: a record of the table holds this number, both addresses and lengths, address, bytes and code, flat.
+#[derive(Clone, Copy, Debug, PartialEq, Eq)]
 pub struct SetRecord {
     /// The identifier where it is written without a lead byte, otherwise 0.
     pub number: u8,
@@ -18,7 +23,7 @@ pub struct SetRecord {
     /// The whole set, with its pad.
     pub at: usize,
     pub size: usize,
-    pub code: u8,
+    pub code: Compaction,
 }
 
 impl SetRecord {
@@ -31,12 +36,31 @@ impl SetRecord {
         object_len: 0,
         at: 0,
         size: 0,
-        code: 0,
+        code: Compaction::ApplicationDefined,
     };
+
+    /// The content of the identifier of the set, in whatever form it is written, by the bytes of its image; a part that
+    /// lies past them is as long as they go.
+    pub fn content<'a>(&'a self, image: &'a [u8]) -> &'a [u8]
+        ensures value { result.now ≡ content_in image.now self.now }
+    {
+        if self.number != 0 {
+            return slice::from_ref(&self.number);
+        }
+        let rest = &image[self.id_at.min(image.len())..];
+        &rest[..self.id_len.min(rest.len())]
+    }
+
+    /// Whether the identifier of the set has this content, in whatever form it is written.
+    pub fn is_named(&self, image: &[u8], identifier: &[u8]) -> bool
+        ensures value { result ≡ bytes_eq (content_in image.now self.now) identifier.now }
+    {
+        *self.content(image) == *identifier
+    }
 }
 
 /// An identifier in the form in which it is written.
-#[derive(Clone, Copy)]
+#[derive(Clone, Copy, Debug)]
 pub enum Identifier<'a> {
     /// A number in the nibble.
     Bare(u8),
@@ -52,8 +76,7 @@ impl<'a> Identifier<'a> {
         ensures value { result ≡ number (name_of self.entry) }
     {
         match self {
-            Identifier::Bare(n) => n,
-            Identifier::Byte(n) => n,
+            Identifier::Bare(n) | Identifier::Byte(n) => n,
             Identifier::Led(_) => 0,
         }
     }
@@ -63,8 +86,7 @@ impl<'a> Identifier<'a> {
         ensures value { result ≡ length (part (name_of self.entry)) }
     {
         match self {
-            Identifier::Bare(_) => 0,
-            Identifier::Byte(_) => 0,
+            Identifier::Bare(_) | Identifier::Byte(_) => 0,
             Identifier::Led(content) => content.len(),
         }
     }
@@ -75,15 +97,14 @@ impl<'a> Identifier<'a> {
         ensures value { result ≡ begin next (name_of self.entry) }
     {
         match self {
-            Identifier::Bare(_) => 0,
-            Identifier::Byte(_) => 0,
+            Identifier::Bare(_) | Identifier::Byte(_) => 0,
             Identifier::Led(content) => next - content.len(),
         }
     }
 }
 
 /// A set, with its identifier and its packed object as parts of the image.
-#[derive(Clone, Copy)]
+#[derive(Clone, Copy, Debug)]
 pub struct SetView<'a> {
     pub place: SetRecord,
     /// Bytes of offset and pad.
@@ -93,7 +114,7 @@ pub struct SetView<'a> {
 }
 
 /// What stands at an address.
-#[derive(Clone, Copy)]
+#[derive(Clone, Copy, Debug)]
 pub enum Scanned<'a> {
     End,
     Filler,

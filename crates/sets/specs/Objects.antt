@@ -5,7 +5,7 @@ use Rattle.codes.specs.Numbers.{fault_number, fault_group}
 use Rattle.codes.specs.Table.{packed_code, unpacked_code, first_code}
 use Rattle.sets.specs.Sets.{Set}
 use Rattle.sets.specs.Parsing.{Flaw}
-use Rattle.sets.specs.Writing.{smallest}
+use Rattle.sets.specs.Writing.{shortest}
 use Rattle.sets.specs.Scans.{Unpack}
 
 abbrev pub code_flaw : Fault → Flaw
@@ -18,6 +18,10 @@ flawed (Err f) = Err (code_flaw f)
 abbrev pub unpacked : Unpack
 unpacked code object = flawed (unpacked_code code object)
 
--- the smallest form of an identifier, a kind and an object: the object packed by the first code of its kind that is permitted
+-- The form of an identifier, a kind and an object: the shortest identifier, the object packed by the first code of its kind
+-- that is permitted, with so many bytes of offset and pad. Without any it is the smallest.
+abbrev pub form : ℕ → List ℕ → ℕ → List ℕ → Set
+form extra c kind object = record { extra = extra; name = shortest c; code = first_code kind object; object = packed_code (first_code kind object) object }
+
 abbrev pub smallest_of : List ℕ → ℕ → List ℕ → Set
-smallest_of c kind object = smallest c (first_code kind object) (packed_code (first_code kind object) object)
+smallest_of = form 0

@@ -28,8 +28,11 @@ abbrev pub offset_bytes : ℕ → List ℕ
 offset_bytes zero = []
 offset_bytes (suc v) = v ∷ []
 
+abbrev pub first_byte : Set → ℕ
+first_byte s = 0x80 * offset_size s.extra + 16 * s.code + nibble s.name
+
 -- pad is written as 00, and read as anything
 unfoldable pub encode : Set → List ℕ
 encode s =
-    (0x80 * offset_size s.extra + 16 * s.code + nibble s.name)
+    first_byte s
     ∷ (offset_bytes s.extra ++ (name_bytes s.name ++ (length_bytes (length s.object) ++ (s.object ++ replicate (s.extra - 1) 0))))

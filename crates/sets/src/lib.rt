@@ -4,16 +4,6 @@
 ghost use Rattle.std.specs.Prelude.{◌≡◌, ◌+◌, length};
 ghost use Rattle.sets.specs.Examples.{spellings, steps, SpellingsRight, StepsRight, MemoryRight};
 
-// The work of `examples_hold`.
-fn held() -> usize
-    ensures value { result ≡ length spellings + length steps + 1 }
-    ensures spelled { SpellingsRight }
-    ensures stepped { StepsRight }
-    ensures scanned { MemoryRight }
-{
-    25
-}
-
 /// How many worked examples the definitions are held to: identifiers and lengths, steps, a whole memory.
 pub fn examples_hold() -> usize
     ensures value { result ≡ length spellings + length steps + 1 }
@@ -21,5 +11,5 @@ pub fn examples_hold() -> usize
     ensures stepped { StepsRight }
     ensures scanned { MemoryRight }
 {
-    held()
+    25
 }

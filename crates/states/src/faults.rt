@@ -7,10 +7,10 @@ ghost use Rattle.states.specs.Faults.{lent_place, call_number, call_place, call_
 use drivers::{DriverFault, WholeFault};
 use reading::ReadFault;
 use scan::ScanFault;
-use tags::Layer;
+use tags::{Layer, Refusal};
 
 /// The working memory that a call is lent.
-#[derive(Clone, Copy)]
+#[derive(Clone, Copy, Debug, PartialEq, Eq)]
 pub enum Lent {
     Image,
     Table,
@@ -29,7 +29,7 @@ impl Lent {
     }
 }
 
-#[derive(Clone, Copy)]
+#[derive(Clone, Copy, Debug, PartialEq, Eq)]
 pub enum CallFault {
     /// A shape outside the limits.
     Shape,
@@ -100,10 +100,10 @@ impl From<WholeFault> for CallFault {
     }
 }
 
-impl CallFault {
-    pub fn number(self) -> u8
-        ensures value { result ≡ call_number self }
-    {
+impl Refusal for CallFault {
+    ghost told = { λ f. record { number = call_number f; place = call_place f; group = call_group f; layer = call_layer f } };
+
+    fn number(&self) -> u8 {
         match self {
             CallFault::Shape => 2,
             CallFault::Short(_) => 4,
@@ -124,16 +124,14 @@ impl CallFault {
         }
     }
 
-    pub fn place(self) -> usize
-        ensures value { result ≡ call_place self }
-    {
+    fn place(&self) -> usize {
         match self {
             CallFault::Short(lent) => lent.place(),
-            CallFault::System(byte) => byte as usize,
+            CallFault::System(byte) => usize::from(*byte),
             CallFault::Reading(fault) => fault.place(),
-            CallFault::Locked(block) => block,
-            CallFault::Present(at) | CallFault::Sealed(at) => at,
-            CallFault::Output(needed) => needed,
+            CallFault::Locked(block) => *block,
+            CallFault::Present(at) | CallFault::Sealed(at) => *at,
+            CallFault::Output(needed) => *needed,
             CallFault::Driver(fault) => fault.place(),
             CallFault::Shape
             | CallFault::Noted
@@ -146,19 +144,14 @@ impl CallFault {
         }
     }
 
-    /// The group of packed bits that a code is at fault for, 0 where none.
-    pub fn group(self) -> usize
-        ensures value { result ≡ call_group self }
-    {
+    fn group(&self) -> usize {
         match self {
             CallFault::Reading(fault) => fault.group(),
             _ => 0,
         }
     }
 
-    pub fn layer(self) -> Layer
-        ensures value { result ≡ call_layer self }
-    {
+    fn layer(&self) -> Layer {
         match self {
             CallFault::Reading(fault) => fault.layer(),
             CallFault::Driver(fault) => fault.layer(),

@@ -6,13 +6,14 @@ use super::faults::CallFault;
 use tags::Shape;
 
 /// What an open state noted of its tag.
-#[derive(Clone, Copy)]
+#[derive(Clone, Copy, Debug, PartialEq, Eq)]
 pub struct Noted {
     pub shape: Shape,
     pub system: u8,
 }
 
 /// Leave to put, change and drop. It is neither copied nor let go: `ready` takes it, and `end` ends it.
+// Stays: an open state and a pledge are plain records of numbers.
 pub struct OpenState {
     count: usize,
     size: usize,

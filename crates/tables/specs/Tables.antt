@@ -1,40 +1,50 @@
 -- A table of changed blocks, and the tag that it makes of another.
-use Rattle.std.specs.Prelude.{◌≡◌, ℕ, Bool, true, false, cond, ◌&&◌, ◌||◌, List, [], ◌++◌, map, length, take, drop, replicate, nat_le, slice_index_or, slice_set}
+use Rattle.std.specs.Prelude.{◌≡◌, ℕ, Bool, true, false, cond, ◌&&◌, ◌||◌, List, ◌++◌, map, length, take, drop, replicate, is_some, Some, None, Option, unwrap_or, nat_le, slice_index_or, slice_set}
 use Rattle.std.specs.List.{range_with_len}
 use Rattle.tags.specs.Tags.{Tag, held}
 use Rattle.drivers.specs.Questions.{shut, block}
+use Rattle.tables.specs.declared.Row.{Row}
 use Rattle.tables.specs.declared.Table.{Table}
 
 -- for n blocks of b bytes
 abbrev pub has_room : ℕ → ℕ → Bool
 has_room n b = nat_le n 64 && nat_le b 32
 
--- a flag of each kind and a row for each of 64 blocks
+-- a row for each of 64 blocks
 pub record Rowed (c : Table) : Type 0 where
-  pub written : length c.written ≡ 64
-  pub locked : length c.locked ≡ 64
   pub rows : length c.rows ≡ 64
 
+-- a row of a block that was not changed
+abbrev pub blank : Row
+blank = record { bytes = None; locked = false }
+
+abbrev pub slot : Table → ℕ → Row
+slot c k = slice_index_or c.rows k blank
+
+-- what was written to block k, if anything was
+abbrev pub written : Table → ℕ → Option (List ℕ)
+written c k = (slot c k).bytes
+
 abbrev pub is_written : Table → ℕ → Bool
-is_written c k = slice_index_or c.written k false
+is_written c k = is_some (written c k)
 
 abbrev pub is_locked : Table → ℕ → Bool
-is_locked c k = slice_index_or c.locked k false
+is_locked c k = (slot c k).locked
 
 abbrev pub row : Table → ℕ → List ℕ
-row c k = slice_index_or c.rows k []
+row c k = unwrap_or (written c k) (replicate 32 0)
 
 -- nothing changed
 abbrev pub unchanged : Table
-unchanged = record { written = replicate 64 false; locked = replicate 64 false; rows = replicate 64 (replicate 32 0) }
+unchanged = record { rows = replicate 64 blank }
 
 -- block k written
 abbrev pub with_row : Table → ℕ → List ℕ → Table
-with_row c k b = record { written = slice_set c.written k true; locked = c.locked; rows = slice_set c.rows k (b ++ drop (length b) (row c k)) }
+with_row c k b = record { rows = slice_set c.rows k (record { bytes = Some (b ++ drop (length b) (row c k)); locked = is_locked c k }) }
 
 -- block k locked
 abbrev pub with_locked : Table → ℕ → Table
-with_locked c k = record { written = c.written; locked = slice_set c.locked k true; rows = c.rows }
+with_locked c k = record { rows = slice_set c.rows k (record { bytes = written c k; locked = true }) }
 
 -- the first b bytes, with zeros for those that are not there
 abbrev pub first : ℕ → List ℕ → List ℕ

@@ -1,18 +1,27 @@
-// The table of changed blocks: which were written, which were locked, and what was written.
+// The table of changed blocks: what was written to each, and which were locked.
 #![tactic(auto)]
 
-ghost use Rattle.std.specs.Prelude.{◌≡◌, ◌&&◌, length, if◌then◌else◌, nat_le, nat_lt};
+ghost use Rattle.std.specs.Prelude.{◌≡◌, ◌&&◌, length, is_ok, is_some, IfSome, if◌then◌else◌, nat_le, nat_lt};
 ghost use Rattle.tables.specs.Tables.{has_room, unchanged, is_written, is_locked, row, first, with_row, with_locked, Rowed};
 
 use tags::Shape;
 
+/// What was changed of one block.
+#[derive(Clone, Copy, Drop)]
+struct Row {
+    bytes: Option<[u8; 32]>,
+    locked: bool,
+}
+
 /// A row for each of 64 blocks, of 32 bytes.
 #[derive(Drop)]
 pub struct Table {
-    written: [bool; 64],
-    locked: [bool; 64],
-    rows: [[u8; 32]; 64],
+    rows: [Row; 64],
 }
+
+/// The table has no row for such a block.
+#[derive(Clone, Copy, Debug, PartialEq, Eq)]
+pub struct NoRow;
 
 impl Table {
     /// Whether the table has room for all blocks of this shape.
@@ -26,48 +35,42 @@ impl Table {
     pub fn new() -> Table
         ensures value { result ≡ unchanged }
     {
-        Table {
-            written: [false; 64],
-            locked: [false; 64],
-            rows: [[0; 32]; 64],
-        }
+        let row = Row {
+            bytes: None,
+            locked: false,
+        };
+        Table { rows: [row; 64] }
     }
 
     /// Whether block `k` was locked.
     pub fn locked(&self, k: usize) -> bool
         ensures value { result ≡ is_locked self.now k }
     {
-        k < 64 && self.locked[k]
+        self.rows.get(k).is_some_and(|row| row.locked)
     }
 
-    /// Fills `out` with what was written to block `k`, and says whether it was.
-    pub fn fetch(&self, k: usize, out: &mut [u8]) -> bool
-        ensures answer { result ≡ (is_written self.now k && nat_le (length out.old) 32) }
-        ensures after { out.new ≡ (if result then first (length out.old) (row self.now k) else out.old) }
+    /// The first `size` bytes of what was written to block `k`, if anything was, and has so many.
+    pub fn fetch(&self, k: usize, size: usize) -> Option<&[u8]>
+        ensures answer { is_some result ≡ (is_written self.now k && nat_le size 32) }
+        ensures value { IfSome result (λ block. block.now ≡ first size (row self.now k)) }
     {
-        let n = out.len();
-        if k >= 64 {
-            return false;
-        }
-        if !self.written[k] || n > 32 {
-            return false;
-        }
-        out.copy_from_slice(&self.rows[k][0..n]);
-        true
+        self.rows.get(k)?.bytes.as_ref()?.get(..size)
     }
 
-    /// Keeps `from` as block `k`, and says whether there is such a row.
-    pub fn put(&mut self, k: usize, from: &[u8]) -> bool
-        ensures answer { result ≡ (nat_lt k 64 && nat_le (length from.now) 32) }
-        ensures after { self.new ≡ (if result then with_row self.old k from.now else self.old) }
+    /// Keeps `from` at the front of block `k`, unless there is no such row.
+    pub fn put(&mut self, k: usize, from: &[u8]) -> Result<(), NoRow>
+        ensures answer { is_ok result ≡ (nat_lt k 64 && nat_le (length from.now) 32) }
+        ensures after { self.new ≡ (if is_ok result then with_row self.old k from.now else self.old) }
         ensures shape { Rowed self.old }
     {
         if k >= 64 || from.len() > 32 {
-            return false;
+            return Err(NoRow);
         }
-        self.rows[k][0..from.len()].copy_from_slice(from);
-        self.written[k] = true;
-        true
+        let row = &mut self.rows[k];
+        let mut bytes = row.bytes.unwrap_or([0; 32]);
+        bytes[..from.len()].copy_from_slice(from);
+        row.bytes = Some(bytes);
+        Ok(())
     }
 
     /// Locks block `k`, if there is such a row.
@@ -76,7 +79,7 @@ impl Table {
         ensures shape { Rowed self.old }
     {
         if k < 64 {
-            self.locked[k] = true;
+            self.rows[k].locked = true;
         }
     }
 }

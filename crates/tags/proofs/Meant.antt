@@ -2,7 +2,7 @@
 use Rattle.std.proofs.Common.{◌≡◌, ℕ, ◌+◌, ◌*◌, ◌<◌, ◌≤◌, Bool, true, false, not, eqb, List, [], map, length, get_or, take, drop, None, sym, refl, ap, ◌∙◌, arith}
 use Rattle.std.proofs.lemmas.List.{get_or-take, get_or-map, get_or_past, length-take, length-drop, take-map, take-take, length-map}
 use Rattle.std.proofs.lemmas.Bool.{le-ltb, eq-eqb, cond-true, cond-false}
-use Rattle.tags.specs.declared.dumps.Dump.{Dump}
+use Rattle.tags.specs.declared.parts.Dump.{Dump}
 use Rattle.tags.specs.Tags.{Shaped, in_limits, fits, held, laid, cut}
 use Rattle.tags.specs.Dumps.{dump_fault, dump_fits, dump_means, nonzero, size_of, count_of}
 use Rattle.tags.proofs.Limits.{limits-parts, fits-from, held-room, held-shaped}

@@ -2,7 +2,7 @@
 use Rattle.std.specs.Prelude.{◌≡◌, ℕ, ◌+◌, ◌*◌, Bool, cond, not, List, map, length, take, drop, Some, None, Option, ◌==◌, nat_lt, slice_index}
 use Rattle.tags.specs.declared.faults.DumpFault.{DumpFault}
 use Rattle.tags.specs.declared.faults.DumpFault.TheVariants.{Short, Shape, Size}
-use Rattle.tags.specs.declared.dumps.Dump.{Dump}
+use Rattle.tags.specs.declared.parts.Dump.{Dump}
 use Rattle.tags.specs.Tags.{Tag, laid, in_limits, fits, held}
 
 abbrev pub size_of : List ℕ → ℕ

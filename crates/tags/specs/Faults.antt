@@ -1,9 +1,16 @@
--- What a fault of a dump tells: number, place and layer; and the layers' names.
+-- What a fault tells, of a dump and of all; and the layers' names.
 use Rattle.std.specs.Prelude.{ℕ, List, codes}
 use Rattle.tags.specs.declared.faults.Layer.{Layer}
 use Rattle.tags.specs.declared.faults.Layer.TheVariants.{Dump, Call, Scan, Code, Driver}
 use Rattle.tags.specs.declared.faults.DumpFault.{DumpFault}
 use Rattle.tags.specs.declared.faults.DumpFault.TheVariants.{Short, Shape, Size}
+
+-- what every fault tells; where no code is at fault the group is 0
+pub record Told : Type 0 where
+  pub number : ℕ
+  pub place : ℕ
+  pub group : ℕ
+  pub layer : Layer
 
 abbrev pub layer_name : Layer → List ℕ
 layer_name Dump = codes "dump"

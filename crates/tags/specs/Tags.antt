@@ -35,6 +35,10 @@ laid n b s memory flags = record { count = n; size = b; system = s; blocks = cut
 abbrev pub in_limits : ℕ → ℕ → Bool
 in_limits n b = nat_le 1 b && nat_le b 32 && nat_le 1 n && nat_le n 255 && nat_le (n * b) 1024
 
+-- the system byte of a tag without directory: access method 0, data format 3 to 28
+abbrev pub known_format : ℕ → Bool
+known_format system = nat_le 3 system && nat_le system 28
+
 -- a shape that a driver may have, with memory and lock flags of exactly its size
 abbrev pub fits : ℕ → ℕ → ℕ → ℕ → Bool
 fits n b memory flags = nat_le n 256 && nat_le b 256 && memory == n * b && flags == n

@@ -3,16 +3,8 @@ ghost use Rattle.std.specs.Prelude.{◌≡◌, false, Some, MatchResult, slice_i
 ghost use Rattle.tags.specs.Dumps.{dump_fault, dump_means, Read};
 
 use super::faults::DumpFault;
+use super::parts::Dump;
 use super::shapes::Shape;
-
-/// The parts of a dump, all lent from its bytes.
-#[derive(Clone, Copy)]
-pub struct Dump<'a> {
-    shape: Shape,
-    system: u8,
-    locks: &'a [u8],
-    content: &'a [u8],
-}
 
 impl<'a> Dump<'a> {
     /// The dump that `bytes` hold, or the first fault: below 3 bytes, a shape outside the limits, another size.
@@ -41,6 +33,13 @@ impl<'a> Dump<'a> {
         })
     }
 
+    /// A byte to each block, not zero where it is locked.
+    pub fn locks(&self) -> &'a [u8]
+        ensures value { result.now ≡ self.now.locks.now }
+    {
+        self.locks
+    }
+
     /// All blocks, one after another.
     pub fn content(&self) -> &'a [u8]
         ensures value { result.now ≡ self.now.content.now }
@@ -53,10 +52,7 @@ impl Dump<'_> {
     pub fn shape(&self) -> Shape
         ensures value { (result.count ≡ (dump_means self.now).count) × (result.size ≡ (dump_means self.now).size) }
     {
-        if self.shape.fits(self.content.len(), self.locks.len()) {
-            return self.shape;
-        }
-        Shape { count: 0, size: 0 }
+        self.shape
     }
 
     pub fn system(&self) -> u8
@@ -69,6 +65,6 @@ impl Dump<'_> {
     pub fn locked(&self, k: usize) -> bool
         ensures value { result ≡ slice_index_or (dump_means self.now).locks k false }
     {
-        k < self.shape().count && self.locks[k] != 0
+        k < self.shape.count && self.locks[k] != 0
     }
 }

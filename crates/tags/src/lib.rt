@@ -3,8 +3,11 @@
 
 pub mod dumps;
 pub mod faults;
+mod formats;
+mod parts;
 pub mod shapes;
 
-pub use dumps::Dump;
-pub use faults::{DumpFault, Layer};
+pub use faults::{DumpFault, Layer, Refusal};
+pub use formats::known_format;
+pub use parts::Dump;
 pub use shapes::Shape;

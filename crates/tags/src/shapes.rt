@@ -3,7 +3,7 @@ ghost use Rattle.std.specs.Prelude.{◌≡◌};
 ghost use Rattle.tags.specs.Tags.{in_limits, fits};
 
 /// `count` blocks of `size` bytes each.
-#[derive(Clone, Copy)]
+#[derive(Clone, Copy, Debug, PartialEq, Eq)]
 pub struct Shape {
     pub count: usize,
     pub size: usize,
@@ -17,10 +17,8 @@ impl Shape {
     pub fn in_limits(self) -> bool
         ensures value { result ≡ in_limits self.count self.size }
     {
-        1 <= self.size
-            && self.size <= 32
-            && 1 <= self.count
-            && self.count <= 255
+        (1..=32).contains(&self.size)
+            && (1..=255).contains(&self.count)
             && self.count * self.size <= 1024
     }
 

@@ -1,12 +1,13 @@
 // The window: a driver over any driver that shows some of its blocks.
 #![tactic(auto)]
 
-ghost use Rattle.std.specs.Prelude.{◌≡◌, ◌+◌, ◌≤◌, ◌<◌};
-ghost use Rattle.drivers.specs.Layers.{window_tag, refused_at, told_at, Narrower};
+ghost use Rattle.std.specs.Prelude.{◌≡◌, ◌+◌, ◌<◌, ◌≤◌, MatchResult};
+ghost use Rattle.drivers.specs.Layers.{window_tag, Narrower};
+ghost use Rattle.drivers.specs.declared.faults.DriverFault.TheVariants.{NoBlock};
 ghost use Rattle.drivers.proofs.Windowing.{window_shaped};
 ghost use Rattle.windows.specs.Shows.{shown};
 
-use drivers::{Driver, DriverFault};
+use drivers::{Driver, DriverFault, check_block};
 use tags::Shape;
 
 /// At most `most` blocks of the lower driver, from block `from` on.
@@ -19,6 +20,7 @@ pub struct Window<D> {
 
 impl<D: Driver> Window<D> {
     /// The window that shows `most` blocks of `lower` from block `from` on, or as many as there are.
+    #[tactic(auto, using(drivers::proofs::Windowing::window_all))]
     pub fn over(lower: D, from: usize, most: usize) -> Window<D>
         ensures value { shown D.Driver.tag result ≡ window_tag from most (D.Driver.tag lower) }
         ensures same { from ≡ 0 → (D.Driver.tag lower).count ≤ most → shown D.Driver.tag result ≡ D.Driver.tag lower }
@@ -36,33 +38,13 @@ impl<D: Driver> Window<D> {
     }
 }
 
-// The block is the one that the window was asked for.
-fn refused_at(k: usize, e: DriverFault) -> DriverFault
-    ensures value { result ≡ refused_at k e }
-{
-    match e {
-        DriverFault::NoBlock(_) => DriverFault::NoBlock(k),
-        DriverFault::WrongBuffer(_) => DriverFault::WrongBuffer(k),
-        DriverFault::Locked(_) => DriverFault::Locked(k),
-    }
-}
-
-fn told_at<X>(k: usize, answer: Result<X, DriverFault>) -> Result<X, DriverFault>
-    ensures value { result ≡ told_at k answer }
-{
-    match answer {
-        Ok(x) => Ok(x),
-        Err(e) => Err(refused_at(k, e)),
-    }
-}
-
 impl<D: Driver> Window<D> {
     // The lower driver's number of block `k`.
-    fn below(&self, k: usize) -> usize
-        requires { k < (shown D.Driver.tag self.now).count }
-        ensures value { result ≡ self.now.from + k }
+    fn below(&self, k: usize) -> Result<usize, DriverFault>
+        ensures cases { MatchResult result (λ b. (k < (shown D.Driver.tag self.now).count) × (b ≡ self.now.from + k)) (λ e. ((shown D.Driver.tag self.now).count ≤ k) × (e ≡ NoBlock k)) }
     {
-        self.from + k
+        check_block(self.shape(), k)?;
+        Ok(self.from + k)
     }
 }
 
@@ -84,35 +66,26 @@ impl<D: Driver> Driver for Window<D> {
     }
 
     fn locked(&mut self, k: usize) -> Result<bool, DriverFault> {
-        if k >= self.shape().count {
-            return Err(DriverFault::NoBlock(k));
-        }
-        let below = self.below(k);
-        told_at(k, self.lower.locked(below))
+        let below = self.below(k)?;
+        self.lower.locked(below).map_err(|e| e.at(k))
     }
 
+    #[tactic(auto, using(drivers::proofs::Windowing::window_read))]
     fn read(&mut self, k: usize, out: &mut [u8]) -> Result<(), DriverFault> {
-        if k >= self.shape().count {
-            return Err(DriverFault::NoBlock(k));
-        }
-        let below = self.below(k);
-        told_at(k, self.lower.read(below, out))
+        let below = self.below(k)?;
+        self.lower.read(below, out).map_err(|e| e.at(k))
     }
 
+    #[tactic(auto, using(drivers::proofs::Windowing::window_write))]
     fn write(&mut self, k: usize, from: &[u8]) -> Result<(), DriverFault> {
-        if k >= self.shape().count {
-            return Err(DriverFault::NoBlock(k));
-        }
-        let below = self.below(k);
-        told_at(k, self.lower.write(below, from))
+        let below = self.below(k)?;
+        self.lower.write(below, from).map_err(|e| e.at(k))
     }
 
+    #[tactic(auto, using(drivers::proofs::Windowing::window_lock))]
     fn lock(&mut self, k: usize) -> Result<(), DriverFault> {
-        if k >= self.shape().count {
-            return Err(DriverFault::NoBlock(k));
-        }
-        let below = self.below(k);
-        told_at(k, self.lower.lock(below))
+        let below = self.below(k)?;
+        self.lower.lock(below).map_err(|e| e.at(k))
     }
 
     fn set_system(&mut self, b: u8) -> Result<(), DriverFault> {

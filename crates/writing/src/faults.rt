@@ -1,7 +1,7 @@
 // Why no set is written.
 
 /// Why a set is not written, or has no smallest form.
-#[derive(Clone, Copy)]
+#[derive(Clone, Copy, Debug, PartialEq, Eq)]
 pub enum WriteFault {
     /// 19: the identifier is not 1 to 32 bytes of whole arcs
     Identifier,

@@ -1,4 +1,4 @@
-use Rattle.std.proofs.Common.{◌≡◌, length, sym, ap, ◌∙◌}
+use Rattle.std.proofs.Common.{◌≡◌, length, sym, ap, ◌∙◌, rules}
 use Rattle.std.proofs.lemmas.Result.{err_from_is_err_and}
 use Rattle.drivers.specs.Wholes.{whole_answer, whole_image}
 use Rattle.calls.specs.Rows.{rooms, first, start_rows, seen}
@@ -34,12 +34,13 @@ returns g c =
     let w = rooms (length c.args.image.now) c.args.table (length c.args.scratch.now) in
     let h = c.in_ok-here.ensures.answer in
     let o = first (start_rows t c.args.noted w) in
+    let scratch : c.fill.new.self ≡ zeroed c.args.scratch.now = search rules in
     record {
       answer = h;
       image = c.read_all.ensures.after
           ∙ ap (λ u. whole_image u c.args.image.now) c.admit.ensures.same
           ∙ whole-imaged t c.args.image.now (started t c.args.noted w h.0).image
           ∙ sym (unless-none o c.args.image.now (imaged t c.args.image.now) h.0);
-      scratch = c.zero.ensures.after ∙ sym (unless-none o c.args.scratch.now (zeroed c.args.scratch.now) h.0);
+      scratch = scratch ∙ sym (unless-none o c.args.scratch.now (zeroed c.args.scratch.now) h.0);
       same = c.read_all.ensures.same ∙ c.admit.ensures.same;
     }

@@ -1,7 +1,7 @@
 use Rattle.std.proofs.Common.{map, take, ap, ◌∙◌, arith}
 use Rattle.std.proofs.lemmas.List.{take_all}
 use Rattle.tags.specs.Dumps.{nonzero}
-use Rattle.calls.proofs.Locking.{lock_more, lock_told, lock_tells}
+use Rattle.calls.proofs.Locking.{lock_more, lock_told, lock_tells, nonzero-bool}
 use Rattle.calls.proofs.starts.read_locks.Goals as goal
 
 pub loop-k-preserved : goal.loop-k-preserved
@@ -11,7 +11,7 @@ loop-k-preserved g c =
     let same = c.loop-k.invariant.1 in
     let told = lock_told (g.D.Driver.tag c.loop-k.d) c.loop-k.k (omega (arith, ap (λ u. u.count) same)) _ _ c.in_ok-locked.was c.locked.ensures.answer in (
       lock_more c.loop-k.locks t.locks c.loop-k.k _ (omega arith) (omega (arith, (g.D.Driver.shaped d).flags)) c.loop-k.invariant.0
-          (c.lock_byte.ensures.value ∙ rw same at told),
+          (ap nonzero c.from.ensures ∙ nonzero-bool _ ∙ rw same at told),
       c.locked.ensures.same ∙ same,
     )
 

@@ -1,5 +1,14 @@
 use Rattle.layout.proofs.Anews.{laid-reads, rivals_need}
 use Rattle.layout.proofs.gaps.lay_out.Goals as goal
 
-pub returns : goal.returns
-returns c = record { value = c.lay.ensures; reads = laid-reads; rivals = rivals_need }
+pub returns-in_err-of-clause-reads : goal.returns-in_err-of-clause-reads
+returns-in_err-of-clause-reads c = laid-reads
+
+pub returns-in_err-of-clause-rivals : goal.returns-in_err-of-clause-rivals
+returns-in_err-of-clause-rivals c = rivals_need
+
+pub returns-clause-reads : goal.returns-clause-reads
+returns-clause-reads c = laid-reads
+
+pub returns-clause-rivals : goal.returns-clause-rivals
+returns-clause-rivals c = rivals_need

@@ -1,14 +1,20 @@
-use Rattle.std.proofs.Common.{◌+◌, ◌*◌, ◌<◌, sym, ◌∙◌, arith}
-use Rattle.std.proofs.lemmas.Int.Digits.{number_more}
-use Rattle.std.proofs.ByRecursion.{All-from_get_or}
-use Rattle.packing.proofs.DigitLoops.{front-lt}
+use Rattle.std.proofs.Common.{◌≤◌, ◌^◌, take, length, ap, ◌∙◌, arith}
+use Rattle.std.specs.Int.Digits.{number_from_digits}
+use native.Mathlib.Nat.{pow-le-pow_right}
+use Rattle.std.proofs.lemmas.List.{length-take-le, get_or-take}
+use Rattle.packing.proofs.DigitLoops.{bytes_within, less_none}
 use Rattle.packing.proofs.integer.number_of.Goals as goal
 
-pub overflow_mul-v : goal.overflow_mul-v
-overflow_mul-v c = record { fits = omega (arith, c.loop-i.invariant, front-lt 256 7 c.loop-i.i c.args.bytes.now (omega arith) (All-from_get_or (λ d. d < 256) c.args.bytes.now 0 (λ i h. (c.type_inv.bytes i).fits)) (omega arith) (omega arith)) }
+pub number_from-requires-clause-digits : goal.number_from-requires-clause-digits
+number_from-requires-clause-digits c =
+    let long = length-take-le c.args.n c.args.bytes.now c.requires.inside in
+    (omega arith, bytes_within (take c.args.n c.args.bytes.now) (λ i h. omega (arith, (c.type_inv.bytes i).fits, get_or-take c.args.n c.args.bytes.now i 0 (omega (arith, h, long)))))
 
-pub overflow_add-v : goal.overflow_add-v
-overflow_add-v c = record { fits = omega (arith, c.loop-i.invariant, c.from.ensures, front-lt 256 7 c.loop-i.i c.args.bytes.now (omega arith) (All-from_get_or (λ d. d < 256) c.args.bytes.now 0 (λ i h. (c.type_inv.bytes i).fits)) (omega arith) (omega arith), (c.type_inv.bytes c.loop-i.i).fits) }
+pub number_from-requires-clause-few : goal.number_from-requires-clause-few
+number_from-requires-clause-few c =
+    let long = length-take-le c.args.n c.args.bytes.now c.requires.inside in
+    let top : 256 ^ length (take c.args.n c.args.bytes.now) ≤ 256 ^ 8 = pow-le-pow_right (omega arith) {j = 8} (omega (arith, long, c.requires.few)) in
+    omega (arith, top)
 
-pub loop-i-preserved : goal.loop-i-preserved
-loop-i-preserved c = (λ j. c.loop-i.invariant j * 256 + c.from.ensures j) ∙ sym (number_more 256 c.args.bytes.now c.loop-i.i (omega arith))
+pub returns : goal.returns
+returns c = c.number_from.ensures ∙ ap (number_from_digits 256) (less_none (take c.args.n c.args.bytes.now))

@@ -1,14 +1,10 @@
-use Rattle.std.proofs.Common.{◌<◌, Ok, refl, ap, ◌∙◌, arith}
+use Rattle.std.proofs.Common.{Ok, ap, ◌∙◌, arith}
 use Rattle.tags.specs.Dumps.{dump_means}
-use Rattle.tables.proofs.Under.{under-locked}
-use Rattle.rehearsal.specs.Means.{rehearsal_tag}
+use Rattle.tables.proofs.Under.{under_locked}
 use Rattle.rehearsal.proofs.RehearsalDriver.locked.Goals as goal
 
-pub returns : goal.returns
-returns c =
+pub returns-clause-answer : goal.returns-clause-answer
+returns-clause-answer c =
     let s = c.args.self.now in
-    let h : c.args.k < (rehearsal_tag s).count = omega (arith, c.shape.ensures.value.0) in
-    record {
-      answer = ap Ok c.is_locked.ensures.value ∙ under-locked (dump_means s.dump) s.table s.system c.args.k h;
-      same = refl;
-    }
+    ap Ok c.is_locked.ensures.value
+    ∙ under_locked (dump_means s.dump) s.table s.system s.room c.args.k (omega (arith, c.in_ok-check_block.ensures.cases, c.shape.ensures.value.0))

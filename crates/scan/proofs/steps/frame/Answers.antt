@@ -1,8 +1,6 @@
-use Rattle.std.proofs.Common.{◌≡◌, drop, Err, sym, ap, ◌∙◌, subst, arith}
-use Rattle.std.proofs.lemmas.Result.{err_from_is_err_and}
+use Rattle.std.proofs.Common.{◌≡◌, drop, sym, ◌∙◌, arith}
 use Rattle.sets.specs.Parsing.{end, parse}
 use Rattle.sets.proofs.Bodies.{step_end, step-zero, step-filler, step_set, step-nibble}
-use Rattle.scan.specs.Inner.{framed, Frames}
 use Rattle.scan.proofs.steps.frame.Goals as goal
 use Rattle.scan.proofs.steps.frame.Goals.{then-at-image-via-then-at-image, then-at-image-via-else-at-image+then-image-at-eq0}
 
@@ -22,19 +20,8 @@ returns-then-image-at-eq0-2 c = record {
   cases = tt;
 }
 
-pub returns-in_err-set : goal.returns-in_err-set
-returns-in_err-set c =
-    let p = err_from_is_err_and c.from_residual.result c.from_residual.ensures.1 in
-    let e = p.1 ∙ ap Err p.2 in
-    record {
-      value = ap framed e ∙ c.in_err-set.ensures.value ∙ sym (step_set c.args.image.now c.args.at (omega arith) (omega arith));
-      cases = subst (Frames c.args.at) (sym e) tt;
-    }
-
 pub returns : goal.returns
-returns c =
-    let xs = c.args.image.now in
-    record {
-      value = c.in_ok-set.ensures.value ∙ sym (step_set xs c.args.at (omega arith) (omega arith));
-      cases = c.in_ok-set.ensures.cases;
-    }
+returns c = record {
+  value = c.read_set.ensures.value ∙ sym (step_set c.args.image.now c.args.at (omega arith) (omega arith));
+  cases = c.read_set.ensures.cases;
+}

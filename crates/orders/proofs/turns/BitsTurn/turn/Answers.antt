@@ -1,5 +1,5 @@
-use Rattle.std.proofs.Common.{◌<◌, ◌++◌, map, length, get_or, set, ap, ◌∙◌, append-nil, arith}
-use Rattle.std.proofs.lemmas.List.{get_or_default, take_all, drop_all}
+use Rattle.std.proofs.Common.{◌<◌, length, get_or, set, ap, ◌∙◌, arith}
+use Rattle.std.proofs.lemmas.List.{get_or_default}
 use Rattle.std.proofs.lemmas.List.Edits.{map_over_more}
 use Rattle.drivers.specs.Layers.{mirror}
 use Rattle.orders.proofs.turns.BitsTurn.turn.Goals as goal
@@ -12,9 +12,3 @@ loop-byte-preserved c =
     let x = get_or ys i 0 in
     let lt : i < length xs = omega arith in
     ap (set ys i) c.mirrored.ensures.value ∙ map_over_more mirror xs ys i x lt c.loop-byte.invariant (get_or_default ys i 0 x (omega arith))
-
-pub returns : goal.returns
-returns c =
-    let xs = c.args.block.now in
-    let i = c.loop-byte.byte-index in
-    record { after = c.loop-byte.invariant ∙ (λ j. map mirror (take_all i xs (omega arith) j) ++ drop_all i xs (omega arith) j) ∙ append-nil (map mirror xs) }

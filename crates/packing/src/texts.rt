@@ -1,0 +1,131 @@
+// One text for every code: an object is packed group by group, and unpacked byte by byte.
+ghost use Rattle.std.specs.Prelude.{◌≡◌, ◌+◌, ◌*◌, ◌/◌, ◌<◌, ◌≤◌, [], ◌∷◌, ◌++◌, length, take, slice_index, MatchResult};
+ghost use Rattle.codes.specs.Bits.{bytes_for};
+ghost use Rattle.codes.specs.Table.{whole, packed_code, unpacked_code};
+ghost use Rattle.packing.specs.Packing.{Sized, Declined, said, Measured, Packs, Unpacks};
+
+use super::choice::{PackFault, UnpackFault};
+use super::code::Code;
+use super::spelled::Spelled;
+use super::widths::Width;
+use codes::Fault;
+
+impl<'a, C: Code> Spelled<'a, C> {
+    // An object of 1 to 2,048 bytes, if the code is for it.
+    pub(crate) fn new(code: &'a C, object: &'a [u8]) -> Result<Self, PackFault>
+        ensures { MatchResult result (λ s. Sized object.now × (s.code.now ≡ code.now) × (s.object.now ≡ object.now)) (Declined (C.listed code.now) object.now) }
+    {
+        if object.is_empty() || object.len() > 2048 {
+            return Err(PackFault::Size);
+        }
+        if !code.suits(object) {
+            return Err(PackFault::NotPermitted);
+        }
+        let count = code.count(object);
+        Ok(Spelled {
+            code,
+            object,
+            count,
+        })
+    }
+}
+
+impl<C: Code> Spelled<'_, C> {
+    // The bytes that the object takes when it is packed.
+    pub(crate) fn length(&self) -> usize
+        ensures { result ≡ length (packed_code (C.listed self.now.code.now) self.now.object.now) }
+    {
+        self.code.width().bytes_for(self.count)
+    }
+
+    // The i-th group of the object; behind its groups stands the padding group.
+    fn group_or_pad(&self, i: usize) -> u8
+        requires { i < self.now.count + 2 }
+        ensures { result ≡ slice_index (C.spelled self.now.code.now self.now.object.now ++ (C.pad self.now.code.now ∷ C.pad self.now.code.now ∷ [])) i }
+    {
+        if i < self.count {
+            self.code.group(self.object, i)
+        } else {
+            self.code.padding()
+        }
+    }
+
+    fn byte(&self, j: usize) -> u8
+        requires { j < bytes_for (C.wide self.now.code.now) self.now.count }
+        ensures { result ≡ slice_index (packed_code (C.listed self.now.code.now) self.now.object.now) j }
+    {
+        let width = self.code.width();
+        let from = Width::BYTE.begins(j, width);
+        let k = from.group;
+        let a = self.group_or_pad(k);
+        let b = self.group_or_pad(k + 1);
+        let c = self.group_or_pad(k + 2);
+        Width::BYTE.cut(width, from.bit, a, b, c)
+    }
+
+    // The packed object, in the bytes that it takes.
+    fn write(&self, out: &mut [u8])
+        requires { length out.old ≡ length (packed_code (C.listed self.now.code.now) self.now.object.now) }
+        ensures { out.new ≡ packed_code (C.listed self.now.code.now) self.now.object.now }
+    {
+        for (j, byte) in out.iter_mut().enumerate() {
+            *byte = self.byte(j);
+        }
+    }
+}
+
+pub(crate) fn pack_with<C: Code>(
+    code: &C,
+    object: &[u8],
+    out: &mut [u8],
+) -> Result<usize, PackFault>
+    ensures { Packs (C.listed code.now) object.now out.old out.new result }
+{
+    let spelled = Spelled::new(code, object)?;
+    let n = spelled.length();
+    if out.len() < n {
+        return Err(PackFault::TooShort(n));
+    }
+    spelled.write(&mut out[..n]);
+    Ok(n)
+}
+
+pub(crate) fn measure_with<C: Code>(code: &C, bytes: &[u8]) -> Result<usize, Fault>
+    ensures { Measured (unpacked_code (C.listed code.now) bytes.now) result }
+{
+    let width = code.width();
+    let padding = code.padding();
+    let n = width.kept(padding, bytes);
+    let length = code.length(bytes, n)?;
+    if !width.ends_padded(padding, bytes) {
+        return Err(Fault::NoPadding(width.whole_groups(bytes).group));
+    }
+    Ok(length)
+}
+
+// The object that the first n groups of bytes mean, in the bytes that it has.
+fn write_object<C: Code>(code: &C, bytes: &[u8], n: usize, out: &mut [u8])
+    requires inside { n ≤ length bytes.now * 8 / C.wide code.now }
+    requires room { length out.old ≡ length (said (C.meant code.now (take n (whole (C.wide code.now) bytes.now)))) }
+    ensures { out.new ≡ said (C.meant code.now (take n (whole (C.wide code.now) bytes.now))) }
+{
+    for (i, byte) in out.iter_mut().enumerate() {
+        *byte = code.byte(bytes, n, i);
+    }
+}
+
+pub(crate) fn unpack_with<C: Code>(
+    code: &C,
+    bytes: &[u8],
+    out: &mut [u8],
+) -> Result<usize, UnpackFault>
+    ensures { Unpacks (unpacked_code (C.listed code.now) bytes.now) out.old out.new result }
+{
+    let length = measure_with(code, bytes)?;
+    if out.len() < length {
+        return Err(UnpackFault::Short(length));
+    }
+    let n = code.width().kept(code.padding(), bytes);
+    write_object(code, bytes, n, &mut out[..length]);
+    Ok(length)
+}

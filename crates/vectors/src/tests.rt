@@ -1,0 +1,14 @@
+// That words are read: no clause can say that there is memory for their bytes.
+use super::*;
+use std::test::Fail;
+
+#[test]
+fn words_are_read(rt: HostRuntime) -> Result<(), Fail> {
+    let heap = rt.alloc();
+    assert_eq!(rt; bytes(heap, "-")?.as_slice(), [].as_slice());
+    assert_eq!(rt; bytes(heap, "")?.as_slice(), [].as_slice());
+    assert_eq!(rt; bytes(heap, "00FF7A")?.as_slice(), [0, 255, 122].as_slice());
+    assert_eq!(rt; bytes(heap, "123"), Err(FromHexError::OddLength));
+    assert!(rt; bytes(heap, "G0").is_err());
+    Ok(())
+}
