@@ -1,6 +1,6 @@
 -- From the check of an image to the rows of the tag that was read into it.
-use Rattle.std.proofs.Common.{◌≡◌, ℕ, ◌*◌, ◌/◌, ◌≤◌, false, cond, eqb, List, [], ◌∷◌, map, length, take, drop, Some, None, Ok, Err, Option, Result, sym, refl, ap, ◌∙◌, arith}
-use Rattle.std.proofs.lemmas.List.{take_at}
+use Rattle.std.proofs.Common.{◌≡◌, ℕ, ◌*◌, ◌/◌, ◌≤◌, false, cond, eqb, List, [], ◌∷◌, map, length, take, drop, replicate, Some, None, Ok, Err, Option, Result, sym, refl, ap, ◌∙◌, arith}
+use Rattle.std.proofs.lemmas.List.{take_at, length-take-le}
 use Rattle.std.proofs.lemmas.Bool.{ne_eqb, le-ltb, cond-false}
 use Rattle.tags.specs.Tags.{Tag, Shaped, bytes}
 use Rattle.tags.specs.Dumps.{nonzero}
@@ -15,7 +15,8 @@ use Rattle.scan.specs.Tables.{records, tally, short, filled}
 use Rattle.scan.specs.Tables as tables
 use Rattle.reading.specs.Checks.{memory, counted, answer, after}
 use Rattle.states.specs.declared.holding.Noted.{Noted}
-use Rattle.calls.specs.Rows.{Rooms, first, fault_of, start_rows, seen}
+use Rattle.calls.specs.declared.admission.Rooms.{Rooms}
+use Rattle.calls.specs.Rows.{first, fault_of, start_rows, seen}
 use Rattle.calls.specs.Working.{Work, rooms_of, imaged, tabled, zeroed, renewed, unless, work}
 use Rattle.calls.specs.Starts.{memory_of, begin_rows, worked}
 use Rattle.calls.proofs.Firsts.{first_on, first_stays, first_one, unless-some, unless-none}
@@ -85,6 +86,7 @@ pub record Prepared (t : Tag) (n : Option Noted) (w : Work) (here : Noted) (imag
   pub zeros : scratch ≡ zeroed w.scratch
   pub room : here.shape.count * here.shape.size ≤ length w.image
   pub front : take (here.shape.count * here.shape.size) image ≡ bytes t
+  pub few : length {A = ℕ} (take here.shape.count (replicate 256 0)) ≡ here.shape.count
 
 pub prepared : (t : Tag) → Shaped t → (n : Option Noted) (w : Work) (here : Noted) (image scratch : List ℕ) → (first (start_rows t n (rooms_of w)) ≡ None) × (here ≡ seen t)
     → image ≡ unless (first (start_rows t n (rooms_of w))) w.image (imaged t w.image) → scratch ≡ unless (first (start_rows t n (rooms_of w))) w.scratch (zeroed w.scratch) → Prepared t n w here image scratch
@@ -99,6 +101,7 @@ prepared t s n w here image scratch h a b =
       zeros = b ∙ unless-none o w.scratch (zeroed w.scratch) h.0;
       room = omega (arith, (started t n (rooms_of w) h.0).image);
       front = front-is t s w.image image (here.shape.count * here.shape.size) read-so (omega arith);
+      few = length-take-le {A = ℕ} here.shape.count (replicate 256 0) (omega (arith, (limits-parts t.count t.size (started t n (rooms_of w) h.0).limits).3, ap (λ (v : Noted). v.shape.count) h.1));
     }
 
 -- the lock bytes and the front of the image make the tag's memory

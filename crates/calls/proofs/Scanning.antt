@@ -9,7 +9,8 @@ use Rattle.sets.specs.Readings.{found}
 use Rattle.scan.specs.declared.views.SetRecord.{SetRecord}
 use Rattle.scan.specs.declared.tables.Tally.{Tally}
 use Rattle.scan.specs.Tables.{tally, short, judged, answer, after}
-use Rattle.calls.specs.Rows.{Row, Rooms, first, start_rows}
+use Rattle.calls.specs.declared.admission.Rooms.{Rooms}
+use Rattle.calls.specs.Rows.{Row, first, start_rows}
 use Rattle.calls.specs.Working.{tabled}
 use Rattle.calls.specs.Reads.{take_rows, read_rows}
 use Rattle.calls.proofs.Firsts.{first_on, first_stays}

@@ -8,7 +8,8 @@ use Rattle.drivers.specs.declared.faults.WholeFault.TheVariants.{Room}
 use Rattle.drivers.specs.Wholes.{whole_answer, whole_image}
 use Rattle.sets.specs.Scans.{Refusal}
 use Rattle.states.specs.declared.holding.Noted.{Noted}
-use Rattle.calls.specs.Rows.{Rooms, first, shape_row, row, room_rows, entry_row, start_rows, seen}
+use Rattle.calls.specs.declared.admission.Rooms.{Rooms}
+use Rattle.calls.specs.Rows.{first, shape_row, row, room_rows, entry_row, start_rows, seen}
 use Rattle.calls.specs.Working.{imaged}
 use Rattle.calls.proofs.Firsts.{first_on, first_stays, none_of, row_fails}
 

@@ -1,20 +1,17 @@
 -- Sets by their identifiers.
-use Rattle.std.specs.Prelude.{ℕ, ◌+◌, Bool, true, not, ◌&&◌, List, [], length, drop, is_some, Some, None, Option, nat_le, slice_index_or}
+use Rattle.std.specs.Prelude.{ℕ, ◌+◌, Bool, not, List, [], length, drop, is_some, Some, None, Option, slice_index_or}
 use Rattle.std.specs.Str.{bytes_eq}
 use Rattle.sets.specs.Sets.{bare}
-use Rattle.sets.specs.Parsing.{arcs}
 use Rattle.sets.specs.Scans.{Found}
 use Rattle.sets.specs.Readings.{lowest, identified}
 use Rattle.scan.specs.declared.views.SetRecord.{SetRecord}
 use Rattle.codes.specs.declared.kind.Compaction.TheVariants.{ApplicationDefined}
+use Rattle.scan.specs.Identifiers.{is_proper}
 use Rattle.scan.specs.Views.{content_in}
 use Rattle.calls.specs.declared.finds.Hit.{Hit}
 use Rattle.calls.specs.Rows.{Row, row}
 
--- row 19: the content of an identifier is 1 to 32 bytes of whole arcs
-abbrev pub is_proper : List ℕ → Bool
-is_proper c = nat_le 1 (length c) && nat_le (length c) 32 && arcs true c
-
+-- row 19: no identifier of this content can stand
 abbrev pub identifier_row : List ℕ → Row
 identifier_row c = row 19 0 (not (is_proper c))
 

@@ -7,7 +7,8 @@ use Rattle.sets.specs.Scans.{Refusal, Found, scan}
 use Rattle.sets.specs.Objects.{unpacked}
 use Rattle.sets.specs.Readings.{found, said}
 use Rattle.calls.specs.declared.finds.Hit.{Hit}
-use Rattle.calls.specs.Rows.{Row, row, Rooms, start_rows}
+use Rattle.calls.specs.declared.admission.Rooms.{Rooms}
+use Rattle.calls.specs.Rows.{Row, row, start_rows}
 use Rattle.calls.specs.Working.{unless}
 use Rattle.calls.specs.Finds.{identifier_row, set_in, hit_in}
 

@@ -6,6 +6,7 @@ use Rattle.sets.specs.Scans.{Refusal}
 use Rattle.states.specs.declared.faults.CallFault.{CallFault}
 use Rattle.states.specs.declared.holding.Noted.{Noted}
 use Rattle.states.specs.Faults.{refusal_of}
+use Rattle.calls.specs.declared.admission.Rooms.{Rooms}
 
 -- what a row tells if it holds, and nothing if it does not
 abbrev pub Row : Type 0
@@ -32,11 +33,6 @@ fault_of (Ok r) = None
 fault_of (Err f) = Some f
 
 -- how many bytes of image and scratch, and records of the table, are lent
-pub record Rooms : Type 0 where
-  pub image : ℕ
-  pub table : ℕ
-  pub scratch : ℕ
-
 abbrev pub rooms : ℕ → ℕ → ℕ → Rooms
 rooms image table scratch = record { image = image; table = table; scratch = scratch }
 

@@ -7,7 +7,8 @@ use Rattle.sets.specs.Readings.{Memory, found, reads}
 use Rattle.scan.specs.Tables.{tally}
 use Rattle.states.specs.declared.holding.Noted.{Noted}
 use Rattle.calls.specs.declared.starts.Begun.{Begun}
-use Rattle.calls.specs.Rows.{Row, Rooms, first, fault_of, seen, start_rows}
+use Rattle.calls.specs.declared.admission.Rooms.{Rooms}
+use Rattle.calls.specs.Rows.{Row, first, fault_of, seen, start_rows}
 use Rattle.calls.specs.Working.{Work, rooms_of, renewed, unless}
 
 abbrev pub memory_of : Tag → Memory

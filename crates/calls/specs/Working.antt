@@ -5,7 +5,8 @@ use Rattle.sets.specs.Scans.{Refusal}
 use Rattle.sets.specs.Readings.{found}
 use Rattle.scan.specs.declared.views.SetRecord.{SetRecord}
 use Rattle.scan.specs.Tables.{records, filled}
-use Rattle.calls.specs.Rows.{Rooms, rooms}
+use Rattle.calls.specs.declared.admission.Rooms.{Rooms}
+use Rattle.calls.specs.Rows.{rooms}
 
 pub record Work : Type 0 where
   pub image : List ℕ

@@ -7,7 +7,7 @@ ghost use Rattle.scan.specs.Views.{content_in};
 ghost use Rattle.calls.specs.Rows.{Answers};
 ghost use Rattle.calls.specs.Finds.{identifier_row, hit_in, hit_among};
 
-use scan::{SetRecord, whole_arcs};
+use scan::{SetRecord, is_proper};
 use states::CallFault;
 
 /// Which set an identifier names: the first, by its place in the table, and whether another stands behind it.
@@ -21,7 +21,7 @@ pub struct Hit {
 pub fn check_identifier(identifier: &[u8]) -> Result<(), CallFault>
     ensures answer { Answers (identifier_row identifier.now ∷ []) (λ _. Unit {0}) result }
 {
-    if identifier.is_empty() || identifier.len() > 32 || !whole_arcs(identifier) {
+    if !is_proper(identifier) {
         return Err(CallFault::Identifier);
     }
     Ok(())
@@ -35,6 +35,7 @@ fn place(image: &[u8], sets: &[SetRecord], identifier: &[u8]) -> Option<usize>
     sets.iter().position(|set| set.is_named(image, identifier))
 }
 
+// Stays: image and table are lent apart, and a table is longer than its sets; a pair would be made for one call.
 /// The first of the sets that has this identifier, by the records of an image. Where they are those of its scan, it is
 /// the first set of the image that has it.
 pub fn find(image: &[u8], sets: &[SetRecord], identifier: &[u8]) -> Option<Hit>

@@ -5,17 +5,17 @@ ghost use Rattle.calls.specs.Rows.{first, Answers};
 ghost use Rattle.calls.specs.Working.{unless};
 ghost use Rattle.calls.specs.Openings.{Opens, lowest_locked, format_rows, erased, formatted};
 
+use super::admission::{check_shape, check_system};
 use drivers::Driver;
 use states::{CallFault, Noted, OpenState};
-use tags::{Shape, known_format};
+use tags::Shape;
 
 // The lowest locked block.
-fn first_locked<D: Driver>(d: &mut D, count: usize) -> Result<Option<usize>, CallFault>
-    requires { count ≡ (D.Driver.tag d.old).count }
+fn first_locked<D: Driver>(d: &mut D) -> Result<Option<usize>, CallFault>
     ensures cases { MatchResult result (λ o. o ≡ lowest_locked (D.Driver.tag d.old)) (λ _. ⊥) }
     ensures same { D.Driver.tag d.new ≡ D.Driver.tag d.old }
 {
-    for k in 0..count {
+    for k in 0..d.shape().count {
         if d.locked(k)? {
             return Ok(Some(k));
         }
@@ -24,15 +24,14 @@ fn first_locked<D: Driver>(d: &mut D, count: usize) -> Result<Option<usize>, Cal
 }
 
 // Writes zeros to each block of a tag that has no locked one.
-fn erase<D: Driver>(d: &mut D, shape: Shape) -> Result<(), CallFault>
-    requires shape { (shape.count ≡ (D.Driver.tag d.old).count) × (shape.size ≡ (D.Driver.tag d.old).size) }
-    requires small { shape.size ≤ 32 }
+fn erase<D: Driver>(d: &mut D) -> Result<(), CallFault>
+    requires small { (D.Driver.tag d.old).size ≤ 32 }
     requires unlocked { (k : ℕ) → k < (D.Driver.tag d.old).count → shut (D.Driver.tag d.old) k ≡ false }
     ensures cases { MatchResult result (λ _. D.Driver.tag d.new ≡ erased (D.Driver.tag d.old)) (λ _. ⊥) }
 {
     let zeros = [0; 32];
-    let size = shape.size;
-    for k in 0..shape.count {
+    let Shape { count, size } = d.shape();
+    for k in 0..count {
         d.write(k, &zeros[..size])?;
     }
     Ok(())
@@ -45,17 +44,13 @@ pub fn format<D: Driver>(d: &mut D, system: u8) -> Result<(OpenState, usize), Ca
     ensures after { D.Driver.tag d.new ≡ unless (first (format_rows (D.Driver.tag d.old) system)) (D.Driver.tag d.old) (formatted (D.Driver.tag d.old) system) }
 {
     let shape = d.shape();
-    if !shape.in_limits() {
-        return Err(CallFault::Shape);
-    }
-    if !known_format(system) {
-        return Err(CallFault::System(system));
-    }
-    if let Some(block) = first_locked(d, shape.count)? {
+    check_shape(shape)?;
+    check_system(system)?;
+    if let Some(block) = first_locked(d)? {
         return Err(CallFault::Locked(block));
     }
     d.set_system(system)?;
-    erase(d, shape)?;
+    erase(d)?;
     let state = OpenState::of(Noted { shape, system });
     Ok((state, shape.count * shape.size))
 }

@@ -26,6 +26,7 @@ fn unpack_at(image: &[u8], at: usize, output: &mut [u8]) -> Result<usize, CallFa
     let Ok(Scanned::Set(set)) = step(image, at) else {
         unreachable!()
     };
+    // Stays: handed on by `map_err`, a closure would not know that the scan found no fault in the code.
     match unpack(set.place.code, set.object, output) {
         Ok(long) => Ok(long),
         Err(UnpackFault::Short(needed)) => Err(CallFault::Output(needed)),

@@ -1,5 +1,5 @@
 // How a call begins: the tag read whole, and what it holds checked.
-ghost use Rattle.std.specs.Prelude.{◌≡◌, ◌≤◌, map, length, take, MatchResult};
+ghost use Rattle.std.specs.Prelude.{◌≡◌, map, length, MatchResult};
 ghost use Rattle.tags.specs.Dumps.{nonzero};
 ghost use Rattle.calls.specs.Rows.{first, Answers, rooms, seen, start_rows};
 ghost use Rattle.calls.specs.Working.{work, imaged, zeroed, unless};
@@ -17,6 +17,7 @@ use tags::Shape;
 pub struct Begun {
     pub noted: Noted,
     /// A byte to each block, not zero where it is locked.
+    // Stays: there is no heap; as many are meant as the noted shape has blocks.
     pub locks: [u8; 256],
     pub tally: Tally,
 }
@@ -46,14 +47,13 @@ pub(crate) fn prepare<D: Driver>(
 }
 
 // The locks of all blocks, a byte to each.
-fn read_locks<D: Driver>(d: &mut D, count: usize, locks: &mut [u8]) -> Result<(), CallFault>
-    requires blocks { count ≡ (D.Driver.tag d.old).count }
-    requires room { count ≤ length locks.old }
-    ensures cases { MatchResult result (λ _. map nonzero (take count locks.new) ≡ (D.Driver.tag d.old).locks) (λ _. ⊥) }
+fn read_locks<D: Driver>(d: &mut D, locks: &mut [u8]) -> Result<(), CallFault>
+    requires { length locks.old ≡ (D.Driver.tag d.old).count }
+    ensures cases { MatchResult result (λ _. map nonzero locks.new ≡ (D.Driver.tag d.old).locks) (λ _. ⊥) }
     ensures same { D.Driver.tag d.new ≡ D.Driver.tag d.old }
 {
-    for k in 0..count {
-        locks[k] = u8::from(d.locked(k)?);
+    for (k, lock) in locks.iter_mut().enumerate() {
+        *lock = u8::from(d.locked(k)?);
     }
     Ok(())
 }
@@ -61,7 +61,7 @@ fn read_locks<D: Driver>(d: &mut D, count: usize, locks: &mut [u8]) -> Result<()
 /// How every call begins that checks what the tag holds: its shape and the lent memory; its system byte, or where a
 /// state noted them shape and system byte; then the image read, the scratch zeroed and the table filled, and what was
 /// read checked against the locks.
-// Stays: the three as one value that is lent by `&mut` get no proof, since the table is written while the image is read.
+// Stays: one value of image, table and scratch was tried, lent and given; what it lends on is not known to the proof behind.
 pub fn begin<D: Driver>(
     d: &mut D,
     noted: Option<Noted>,
@@ -76,7 +76,7 @@ pub fn begin<D: Driver>(
     let here = prepare(d, noted, image, table.len(), scratch)?;
     let Shape { count, size } = here.shape;
     let mut locks = [0; 256];
-    read_locks(d, count, &mut locks)?;
+    read_locks(d, &mut locks[..count])?;
     let memory = Memory {
         image: &image[..count * size],
         locks: &locks[..count],

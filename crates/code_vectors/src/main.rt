@@ -40,18 +40,13 @@ fn numbered<T: TryFrom<u8, Error = UnknownNumber>>(word: &str) -> anyhow::Result
     Ok(T::try_from(word.parse::<u8>()?)?)
 }
 
-fn packs(
-    heap: Global,
-    kind: Kind,
-    object: &[u8],
-    code: Compaction,
-    packed: &[u8],
-) -> anyhow::Result<bool> {
+// The code is a number: one above 7 is no error, but differs.
+fn packs(heap: Global, kind: Kind, object: &[u8], code: u8, packed: &[u8]) -> anyhow::Result<bool> {
     let mut out = Output::of(heap, 2100)?;
     let Ok(p) = pack(kind, object, out.room()) else {
         return Ok(false);
     };
-    Ok(p.code == code && p.length == packed.len() && out.holds(packed))
+    Ok(u8::from(p.code) == code && p.length == packed.len() && out.holds(packed))
 }
 
 fn says(heap: Global, code: Compaction, packed: &[u8], object: &[u8]) -> anyhow::Result<bool> {
@@ -76,6 +71,14 @@ fn fails(
     Ok(f.number() == number && f.group() == group && out.holds(&[]))
 }
 
+// Whether an output is told to be too short for as many bytes as the last words of a case say.
+fn says_short(why: &[&str], n: usize) -> anyhow::Result<bool> {
+    match why {
+        ["short", needed] => Ok(n == needed.parse::<usize>()?),
+        _ => Ok(false),
+    }
+}
+
 fn refuses_to_pack(
     heap: Global,
     code: Compaction,
@@ -85,8 +88,8 @@ fn refuses_to_pack(
 ) -> anyhow::Result<bool> {
     let mut out = Output::of(heap, room)?;
     let right = match (pack_as(code, object, out.room()), why) {
-        (Err(PackFault::Size), ["size"]) | (Err(PackFault::NotPermitted), ["code"]) => true,
-        (Err(PackFault::TooShort(n)), ["short", needed]) => n == needed.parse::<usize>()?,
+        (Err(PackFault::Size), ["size", ..]) | (Err(PackFault::NotPermitted), ["code", ..]) => true,
+        (Err(PackFault::TooShort(n)), _) => says_short(why, n)?,
         _ => false,
     };
     Ok(right && out.holds(&[]))
@@ -97,13 +100,13 @@ fn refuses_to_unpack(
     code: Compaction,
     packed: &[u8],
     room: usize,
-    needed: usize,
+    why: &[&str],
 ) -> anyhow::Result<bool> {
     let mut out = Output::of(heap, room)?;
     let Err(UnpackFault::Short(n)) = unpack(code, packed, out.room()) else {
         return Ok(false);
     };
-    Ok(n == needed && out.holds(&[]))
+    Ok(says_short(why, n)? && out.holds(&[]))
 }
 
 fn case(heap: Global, words: &[&str]) -> anyhow::Result<bool> {
@@ -112,35 +115,35 @@ fn case(heap: Global, words: &[&str]) -> anyhow::Result<bool> {
             heap,
             numbered(kind)?,
             bytes(heap, object)?.as_slice(),
-            numbered(code)?,
+            code.parse()?,
             bytes(heap, packed)?.as_slice(),
         ),
-        ["unpack", code, packed, "object", object] => says(
+        ["unpack", code, packed, "object", object, ..] => says(
             heap,
             numbered(code)?,
             bytes(heap, packed)?.as_slice(),
             bytes(heap, object)?.as_slice(),
         ),
-        ["unpack", code, packed, "fault", number, group] => fails(
+        ["unpack", code, packed, _, number, group] => fails(
             heap,
             numbered(code)?,
             bytes(heap, packed)?.as_slice(),
             number.parse()?,
             group.parse()?,
         ),
-        ["refuse-pack", code, object, room, why @ ..] => refuses_to_pack(
+        ["refuse-pack", code, object, room, why @ ..] if !why.is_empty() => refuses_to_pack(
             heap,
             numbered(code)?,
             bytes(heap, object)?.as_slice(),
             room.parse()?,
             why,
         ),
-        ["refuse-unpack", code, packed, room, "short", needed] => refuses_to_unpack(
+        ["refuse-unpack", code, packed, room, why @ ..] if !why.is_empty() => refuses_to_unpack(
             heap,
             numbered(code)?,
             bytes(heap, packed)?.as_slice(),
             room.parse()?,
-            needed.parse()?,
+            why,
         ),
         _ => Err(anyhow!("no such case")),
     }
@@ -164,7 +167,8 @@ impl Counts {
     }
 }
 
-fn compare(rt: &HostRuntime) -> anyhow::Result<()> {
+// Stays: the loop of `gap_vectors` is alike; shared it would be public, and no contract can say what is read and printed.
+fn main(rt: HostRuntime) -> anyhow::Result<()> {
     let mut counts = Counts::default();
     for line in BufReader::new(rt.alloc(), rt.stdin())?.lines(rt.alloc()) {
         let line = line?;
@@ -186,8 +190,4 @@ fn compare(rt: &HostRuntime) -> anyhow::Result<()> {
         codes::examples_hold()
     )?;
     Ok(())
-}
-
-fn main(rt: HostRuntime) -> anyhow::Result<()> {
-    compare(&rt)
 }

@@ -1,5 +1,6 @@
 -- The numbers of kinds, codes and faults.
-use Rattle.std.specs.Prelude.{ℕ}
+use Rattle.std.specs.Prelude.{ℕ, List, ◌++◌, codes}
+use Rattle.std.specs.Fmt.{decimal}
 use Rattle.codes.specs.declared.kind.Kind.{Kind}
 use Rattle.codes.specs.declared.kind.Kind.TheVariants.{Application, Compact, Utf8}
 use Rattle.codes.specs.declared.kind.Compaction.{Compaction}
@@ -32,3 +33,7 @@ abbrev pub fault_group : Fault → ℕ
 fault_group TooLarge = 0
 fault_group (NoCharacter group) = group
 fault_group (NoPadding whole) = whole
+
+-- what is said of a number that no kind, or no code, has
+abbrev pub unknown_text : ℕ → List ℕ
+unknown_text n = codes "nothing has the number " ++ decimal n

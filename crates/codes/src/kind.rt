@@ -1,6 +1,6 @@
 // The kinds of objects, and the compaction codes that they are packed by.
-ghost use Rattle.std.specs.Prelude.{◌≡◌, ◌<◌, MatchResult};
-ghost use Rattle.codes.specs.Numbers.{kind_number, code_number};
+ghost use Rattle.std.specs.Prelude.{◌≡◌, ◌<◌, Some, MatchResult};
+ghost use Rattle.codes.specs.Numbers.{kind_number, code_number, unknown_text};
 
 use std::error::Error;
 use std::fmt;
@@ -10,6 +10,8 @@ use std::fmt;
 pub struct UnknownNumber(pub u8);
 
 impl fmt::Display for UnknownNumber {
+    ghost output = { λ n. Some (unknown_text n.0) };
+
     fn fmt<W: fmt::Write>(&self, f: &mut fmt::Formatter<W>) -> fmt::Result {
         write!(f, "nothing has the number {}", self.0)
     }

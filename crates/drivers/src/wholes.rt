@@ -15,7 +15,7 @@ pub fn read_all<D: Driver>(d: &mut D, image: &mut [u8]) -> Result<(), WholeFault
     if image.len() < needed {
         return Err(WholeFault::Room(needed));
     }
-    // Stays: blocks may have no bytes, and `chunks_exact_mut` cuts no such parts.
+    // Stays: blocks may have no bytes; `chunks_exact_mut` would want a case for them, and their numbers beside.
     for k in 0..shape.count {
         let at = k * shape.size;
         let end = at + shape.size;

@@ -2,3 +2,4 @@ pub mod Plans
 pub mod Lays
 pub mod Measures
 pub mod Anew
+pub mod Texts

@@ -1,4 +1,7 @@
 // What a gap is laid out for, and what its layout answers.
+ghost use Rattle.std.specs.Prelude.{◌≡◌, Some};
+ghost use Rattle.layout.specs.Texts.{fault_text};
+
 use std::error::Error;
 use std::fmt;
 
@@ -21,6 +24,8 @@ pub enum LayoutFault {
 }
 
 impl fmt::Display for LayoutFault {
+    ghost output = { λ f. Some (fault_text f) };
+
     fn fmt<W: fmt::Write>(&self, f: &mut fmt::Formatter<W>) -> fmt::Result {
         match self {
             LayoutFault::Unfit(i) => write!(f, "item {i} unfit"),

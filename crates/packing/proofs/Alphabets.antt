@@ -42,6 +42,10 @@ upto-more hi (b ∷ x) (suc j) h lt le = ⊎_elim
     (λ f. absurd (omega (arith, cond-false (leb b hi) (suc (upto hi x)) 0 f)))
     (cases_Bool (leb b hi))
 
+pub upto-front : (hi : ℕ) (x : List ℕ) (i : ℕ) → i ≤ length x → ((j : ℕ) → j < i → get_or x j 0 ≤ hi) → i ≤ upto hi x
+upto-front hi x zero h p = omega arith
+upto-front hi x (suc i) h p = omega (arith, upto-more hi x i (upto-front hi x i (omega arith) (λ j l. p j (omega arith))) (omega arith) (p i (omega arith)))
+
 upto-stop : (hi : ℕ) (x : List ℕ) (i : ℕ) → i ≤ upto hi x → i < length x → hi < get_or x i 0 → upto hi x ≡ i
 upto-stop hi [] i h lt gt = absurd (omega arith)
 upto-stop hi (b ∷ x) zero h lt gt = cond-false (leb b hi) (suc (upto hi x)) 0 (lt-leb b hi gt)
@@ -59,6 +63,10 @@ module _ (w lo hi : ℕ) (gs : List ℕ) (n : ℕ) (in' : n ≤ length gs) where
 
   pub letter_at : (i : ℕ) → i < n → get_or (map (letter w lo) (take n gs)) i 0 ≡ letter w lo (get_or gs i 0)
   letter_at i lt = get_or-map (letter w lo) (take n gs) i 0 0 (omega (arith, length-take-le n gs in')) ∙ ap (letter w lo) (get_or-take n gs i 0 lt)
+
+  -- the letters before one
+  pub lettered-front : (i : ℕ) → i ≤ n → ((j : ℕ) → j < i → letter w lo (get_or gs j 0) ≤ hi) → i ≤ upto hi (map (letter w lo) (take n gs))
+  lettered-front i le h = upto-front hi (map (letter w lo) (take n gs)) i (omega (arith, spelt-long)) (λ j l. subst (λ b. b ≤ hi) (sym (letter_at j (omega arith))) (h j l))
 
   pub lettered-stop : (i : ℕ) → i ≤ upto hi (map (letter w lo) (take n gs)) → i < n → hi < letter w lo (get_or gs i 0) → lettered w lo hi (take n gs) ≡ Err (NoCharacter i)
   unfolding lettered

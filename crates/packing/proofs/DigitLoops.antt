@@ -1,9 +1,9 @@
 -- What the loops over digits keep.
-use Rattle.std.proofs.Common.{◌≡◌, ℕ, suc, ◌+◌, ◌-◌, ◌*◌, ◌/◌, ◌%◌, ◌^◌, ◌<◌, ◌≤◌, true, ◌&&◌, eqb, leb, List, [], ◌∷◌, map, length, get_or, take, Ok, Err, sym, refl, ap, ◌∙◌, subst, ⊎_elim, div-lt_iff_lt-mul, mul-le-mul_left, arith}
+use Rattle.std.proofs.Common.{◌≡◌, ℕ, suc, ◌+◌, ◌-◌, ◌*◌, ◌/◌, ◌%◌, ◌^◌, ◌<◌, ◌≤◌, true, ◌&&◌, eqb, leb, List, [], ◌∷◌, map, length, get_or, take, Ok, Err, sym, refl, ap, ◌∙◌, subst, ⊎_elim, mul_comm, pow-suc, arith}
 use native.Mathlib.Nat.{pow-le-pow_right, pow-le-pow_left}
 use Rattle.std.specs.List.{AllByRecursion}
 use Rattle.std.specs.Int.Digits.{digits_of, number_from_digits, AllBelowBase}
-use Rattle.std.proofs.lemmas.Int.Digits.{digits_of_step, length-digits_of_step, length-digits_of-le, all_below_base_digits_of, number_lt, number_more}
+use Rattle.std.proofs.lemmas.Int.Digits.{digits_of_step, length-digits_of_step, length-digits_of-le, all_below_base_digits_of, number_digits_of, number_lt, number_more}
 use Rattle.std.proofs.lemmas.List.{length-map, length-take-le, get_or-map, get_or-take, get_or_push, take_all, take_at, take-take}
 use Rattle.std.proofs.ByRecursion.{All-get_or, All-take}
 use Rattle.std.proofs.lemmas.Bool.{cases_eq, cases_lt, ne_eqb, le-leb, lt-leb, leb-true, and_parts, and_from, and_left, and_right, cond-true, cond-false, cond_both}
@@ -59,18 +59,19 @@ pub less_none : (x : List ℕ) → map (λ b. b - 0) x ≡ x
 less_none [] = refl
 less_none (b ∷ x) = let e : b - 0 ≡ b = omega arith in (λ j. e j ∷ less_none x j)
 
--- a number has fewer digits once the last is cut off
-pub cut-lt : (b v : ℕ) → 2 ≤ b → 0 < v → v / b < v
-cut-lt b v two some =
-    let pos : 0 < b = omega arith in
-    let more : v * 2 ≤ v * b = mul-le-mul_left v two in
-    (div-lt_iff_lt-mul pos).1 (omega arith)
+-- a number between two powers of the base has one digit more than the lower power says
+pub digits-between : (b n k : ℕ) → 2 ≤ b → b ^ k ≤ n → n < b * b ^ k → k + 1 ≡ length (digits_of b n)
+digits-between b n k two low high =
+    let next : b * b ^ k ≡ b ^ suc k = mul_comm b (b ^ k) ∙ sym (pow-suc b k) in
+    let most : length (digits_of b n) ≤ suc k = length-digits_of-le b (suc k) n two (subst (λ m. n < m) next high) in
+    let under : n < b ^ length (digits_of b n) = subst (λ m. m < b ^ length (digits_of b n)) (number_digits_of b n two) (number_lt b (digits_of b n) (all_below_base_digits_of b n two)) in
+    ⊎_elim
+    (λ more. omega (arith, most, more))
+    (λ less. let top : b ^ length (digits_of b n) ≤ b ^ k = pow-le-pow_right (omega (arith, two)) less in absurd (omega (arith, top, under, low)))
+    (cases_lt k (length (digits_of b n)))
 
 pub at-most_64 : (b n : ℕ) → 2 ≤ b → n < 2 ^ 64 → length (digits_of b n) ≤ 64
 at-most_64 b n two small = length-digits_of-le b 64 n two (omega (arith, pow-le-pow_left two 64))
-
-pub counted : (b v n m : ℕ) → 2 ≤ b → 0 < v → length (digits_of b v) + n ≡ m → length (digits_of b (v / b)) + (n + 1) ≡ m
-counted b v n m two some e = omega (arith, length-digits_of_step b v two some)
 
 some_digits : (b v : ℕ) → 0 < length (digits_of b v) → 0 < v
 some_digits b v h = ⊎_elim (λ z. absurd (omega (arith, h, ap (λ n. length (digits_of b n)) z))) (λ ne. ⊎_elim (λ l. l) (λ g. absurd (ne (omega arith))) (cases_lt 0 v)) (cases_eq v 0)

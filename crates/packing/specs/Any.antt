@@ -7,7 +7,7 @@ use Rattle.codes.specs.Numbers.{code_number}
 use Rattle.codes.specs.Table.{value, low_bits, permitted, packed_code, unpacked_code, unpacked_integer}
 use Rattle.packing.specs.declared.any.AnyCode.{AnyCode}
 use Rattle.packing.specs.declared.any.AnyCode.TheVariants.{Octets, Integer, Letters}
-use Rattle.packing.specs.declared.alphabet.Alphabet.{Alphabet}
+use Rattle.packing.specs.declared.rows.Alphabet.{Alphabet}
 use Rattle.packing.specs.Coded.{unpacked_by, lettered}
 use Rattle.packing.specs.Plain.{plain, octets_sized, number_bytes, packed_bytes, bytes_by, plain_packs, plain_unpacks}
 use Rattle.packing.specs.Rows.{Listed, listed, row_sized, row_packs, row_unpacks}

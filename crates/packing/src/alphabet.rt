@@ -1,28 +1,17 @@
 // An alphabet: bytes in a row, each standing for its low bits. One implementation over the width.
-ghost use Rattle.std.specs.Prelude.{◌≡◌, true};
+ghost use Rattle.std.specs.Prelude.{◌≡◌};
 ghost use Rattle.codes.specs.Numbers.{code_number};
 ghost use Rattle.codes.specs.Table.{low_bits, letter};
-ghost use Rattle.packing.specs.Coded.{is_alphabet, lettered};
+ghost use Rattle.packing.specs.Any.{row};
+ghost use Rattle.packing.specs.Coded.{lettered};
 ghost use Rattle.packing.specs.Widths.{width_code};
-ghost use Rattle.packing.specs.Rows.{listed as row_of, row_sized, row_packs, row_unpacks};
+ghost use Rattle.packing.specs.Rows.{row_sized, row_packs, row_unpacks};
 
 use super::code::Code;
 use super::groups::all_within;
+use super::rows::Alphabet;
 use super::widths::Width;
 use codes::{Compaction, Fault};
-
-#[derive(Clone, Copy)]
-pub(crate) struct Alphabet {
-    code: Compaction,
-    width: Width,
-    padding: u8,
-    least: usize,
-    first: u8,
-    last: u8,
-    // whether an object may not end in a blank where its groups fill whole bytes
-    blank: bool,
-    ghost ok: { is_alphabet (code_number code) width.bits padding least first last blank ≡ true },
-}
 
 /// How many bits a letter of an alphabet takes.
 #[derive(Clone, Copy)]
@@ -99,11 +88,11 @@ impl Code for Alphabet {
 
     ghost meant = { λ c gs. lettered c.width.bits c.first c.last gs };
 
-    ghost sized = { λ c. row_sized (row_of (code_number c.code) c.width.bits c.padding c.least c.first c.last c.blank c.ok) };
+    ghost sized = { λ c. row_sized (row c) };
 
-    ghost packs = { λ c x h u. row_packs (row_of (code_number c.code) c.width.bits c.padding c.least c.first c.last c.blank c.ok) x };
+    ghost packs = { λ c x h u. row_packs (row c) x };
 
-    ghost unpacks = { λ c bs u. row_unpacks (row_of (code_number c.code) c.width.bits c.padding c.least c.first c.last c.blank c.ok) bs };
+    ghost unpacks = { λ c bs u. row_unpacks (row c) bs };
 
     fn width(&self) -> Width {
         self.width
@@ -133,13 +122,10 @@ impl Code for Alphabet {
     }
 
     fn length(&self, bytes: &[u8], n: usize) -> Result<usize, Fault> {
-        // Stays: a group is cut from the bytes by its number; there is nothing else to go through.
-        for i in 0..n {
-            if self.letter(self.width.group_of(bytes, i)) > self.last {
-                return Err(Fault::NoCharacter(i));
-            }
+        match (0..n).find(|i| self.letter(self.width.group_of(bytes, *i)) > self.last) {
+            Some(i) => Err(Fault::NoCharacter(i)),
+            None => Ok(n),
         }
-        Ok(n)
     }
 
     fn byte(&self, bytes: &[u8], _n: usize, i: usize) -> u8 {

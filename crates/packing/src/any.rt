@@ -1,8 +1,8 @@
 // Each code of the table, as one type.
 
-use super::alphabet::Alphabet;
 use super::integer::Integer;
 use super::octets::Octets;
+use super::rows::Alphabet;
 
 /// Whichever code a set has.
 #[derive(Clone, Copy)]

@@ -3,11 +3,12 @@ ghost use Rattle.std.specs.Prelude.{◌≡◌};
 ghost use Rattle.codes.specs.Numbers.{code_number};
 ghost use Rattle.packing.specs.Any.{any_listed, any_wide, any_pad, any_spelled, any_meant, any_sized, any_packs, any_unpacks};
 
-use super::alphabet::{Alphabet, Letters};
+use super::alphabet::Letters;
 use super::any::AnyCode;
 use super::code::Code;
 use super::integer::Integer;
 use super::octets::Octets;
+use super::rows::Alphabet;
 use super::widths::Width;
 use codes::{Compaction, Fault, Kind};
 
@@ -28,6 +29,7 @@ impl From<Compaction> for AnyCode {
     }
 }
 
+// Stays: seven calls go to the code that it is; one match for all would hand out a `&dyn Code`, which no function here does.
 impl Code for AnyCode {
     ghost listed = { any_listed };
 

@@ -48,14 +48,10 @@ fn digits_in(base: u64, number: u64) -> usize
     ensures value { result ≡ length (digits_of base number) }
     ensures bound { result ≤ 64 }
 {
-    let mut v = number;
-    let mut n = 0usize;
-    // Stays: a number has no digits to go through before they are counted.
-    while v > 0 {
-        v /= base;
-        n += 1;
+    match number.checked_ilog(base) {
+        Some(k) => k as usize + 1,
+        None => 0,
     }
-    n
 }
 
 // One of a number's digits, the highest at 0.

@@ -1,11 +1,12 @@
 // One text for every code: an object is packed group by group, and unpacked byte by byte.
-ghost use Rattle.std.specs.Prelude.{◌≡◌, ◌+◌, ◌*◌, ◌/◌, ◌<◌, ◌≤◌, [], ◌∷◌, ◌++◌, length, take, slice_index, MatchResult};
+ghost use Rattle.std.specs.Prelude.{◌≡◌, ◌+◌, ◌<◌, [], ◌∷◌, ◌++◌, length, slice_index, Ok, MatchResult};
 ghost use Rattle.codes.specs.Bits.{bytes_for};
-ghost use Rattle.codes.specs.Table.{whole, packed_code, unpacked_code};
+ghost use Rattle.codes.specs.Table.{packed_code, unpacked_code};
 ghost use Rattle.packing.specs.Packing.{Sized, Declined, said, Measured, Packs, Unpacks};
 
 use super::choice::{PackFault, UnpackFault};
 use super::code::Code;
+use super::kept::Kept;
 use super::spelled::Spelled;
 use super::widths::Width;
 use codes::Fault;
@@ -50,6 +51,7 @@ impl<C: Code> Spelled<'_, C> {
         }
     }
 
+    // Stays: `Width::group_of` cuts three neighbours alike; a closure that gets them would need its value said of each.
     fn byte(&self, j: usize) -> u8
         requires { j < bytes_for (C.wide self.now.code.now) self.now.count }
         ensures { result ≡ slice_index (packed_code (C.listed self.now.code.now) self.now.object.now) j }
@@ -90,28 +92,44 @@ pub(crate) fn pack_with<C: Code>(
     Ok(n)
 }
 
+impl<'a, C: Code> Kept<'a, C> {
+    fn of(code: &'a C, bytes: &'a [u8]) -> Self
+        ensures code { result.code.now ≡ code.now }
+        ensures bytes { result.bytes.now ≡ bytes.now }
+    {
+        let count = code.width().kept(code.padding(), bytes);
+        Kept { code, bytes, count }
+    }
+}
+
+impl<C: Code> Kept<'_, C> {
+    // The length of the object that the bytes say.
+    fn length(&self) -> Result<usize, Fault>
+        ensures { Measured (unpacked_code (C.listed self.now.code.now) self.now.bytes.now) result }
+    {
+        let width = self.code.width();
+        let length = self.code.length(self.bytes, self.count)?;
+        if !width.ends_padded(self.code.padding(), self.bytes) {
+            return Err(Fault::NoPadding(width.whole_groups(self.bytes).group));
+        }
+        Ok(length)
+    }
+
+    // That object, in the bytes that it has.
+    fn write(&self, out: &mut [u8])
+        requires { Measured (unpacked_code (C.listed self.now.code.now) self.now.bytes.now) (Ok (length out.old)) }
+        ensures { out.new ≡ said (unpacked_code (C.listed self.now.code.now) self.now.bytes.now) }
+    {
+        for (i, byte) in out.iter_mut().enumerate() {
+            *byte = self.code.byte(self.bytes, self.count, i);
+        }
+    }
+}
+
 pub(crate) fn measure_with<C: Code>(code: &C, bytes: &[u8]) -> Result<usize, Fault>
     ensures { Measured (unpacked_code (C.listed code.now) bytes.now) result }
 {
-    let width = code.width();
-    let padding = code.padding();
-    let n = width.kept(padding, bytes);
-    let length = code.length(bytes, n)?;
-    if !width.ends_padded(padding, bytes) {
-        return Err(Fault::NoPadding(width.whole_groups(bytes).group));
-    }
-    Ok(length)
-}
-
-// The object that the first n groups of bytes mean, in the bytes that it has.
-fn write_object<C: Code>(code: &C, bytes: &[u8], n: usize, out: &mut [u8])
-    requires inside { n ≤ length bytes.now * 8 / C.wide code.now }
-    requires room { length out.old ≡ length (said (C.meant code.now (take n (whole (C.wide code.now) bytes.now)))) }
-    ensures { out.new ≡ said (C.meant code.now (take n (whole (C.wide code.now) bytes.now))) }
-{
-    for (i, byte) in out.iter_mut().enumerate() {
-        *byte = code.byte(bytes, n, i);
-    }
+    Kept::of(code, bytes).length()
 }
 
 pub(crate) fn unpack_with<C: Code>(
@@ -121,11 +139,11 @@ pub(crate) fn unpack_with<C: Code>(
 ) -> Result<usize, UnpackFault>
     ensures { Unpacks (unpacked_code (C.listed code.now) bytes.now) out.old out.new result }
 {
-    let length = measure_with(code, bytes)?;
+    let kept = Kept::of(code, bytes);
+    let length = kept.length()?;
     if out.len() < length {
         return Err(UnpackFault::Short(length));
     }
-    let n = code.width().kept(code.padding(), bytes);
-    write_object(code, bytes, n, &mut out[..length]);
+    kept.write(&mut out[..length]);
     Ok(length)
 }

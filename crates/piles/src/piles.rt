@@ -41,7 +41,8 @@ pub(super) const PILES: [Pile; 15] = [
 ];
 
 impl Pile {
-    /// Asks this pile over `tag` everything. A tag's type grows with each layer, so that no closure can take it.
+    /// Asks this pile over `tag` everything.
+    // Stays: each arm lays the layers themselves; `layers::lay_on`, of one type for all, would bring them to one window.
     pub(super) fn exercise<D: Driver + Drop>(self, rt: &HostRuntime, tag: D) -> io::Result<()> {
         match self {
             Pile::Tag => exercise_all(rt, tag),

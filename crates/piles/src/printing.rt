@@ -2,6 +2,7 @@
 use std::io;
 use tags::Refusal;
 
+// Stays: the matches that end here print another line each where something is granted; closures would be no shorter.
 pub(super) fn print_fault<F: Refusal + Drop>(
     rt: &HostRuntime,
     word: &str,

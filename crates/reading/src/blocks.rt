@@ -8,7 +8,7 @@ ghost use Rattle.reading.specs.Inner.{locked_run, FirstLocked};
 use super::memories::Blocks;
 use scan::SetRecord;
 
-impl Blocks<'_> {
+impl Blocks<'_, '_> {
     // Whether an address lies in a locked block; a block past the lock bytes is open.
     fn locked_at(self, address: usize) -> bool
         ensures value { result ≡ locked_at (memory_of self.entry.memory) address }

@@ -10,7 +10,7 @@ use super::memories::Memory;
 use super::repeats::first_repeat;
 use scan::{SetRecord, Tally, scan_image};
 
-impl Memory<'_> {
+impl Memory<'_, '_> {
     /// Scans the image into the table, and checks it against the locks. Answers how many sets there are and how many
     /// bytes are free.
     pub fn check(self, table: &mut [SetRecord]) -> Result<Tally, ReadFault>

@@ -16,7 +16,7 @@ pub struct Entry<'i, 's> {
     pub object: &'s [u8],
 }
 
-impl<'i> Memory<'i> {
+impl<'i> Memory<'i, '_> {
     /// What the set at an address says, its object unpacked to the front of `scratch`. There is none where no set stands
     /// at the address, where the object is longer than the scratch, or where blocks have no bytes.
     pub fn entry_at<'s>(self, at: usize, scratch: &'s mut [u8]) -> Option<Entry<'i, 's>>

@@ -5,6 +5,7 @@ ghost use Rattle.reading.specs.Inner.{same_content, first_again};
 
 use scan::SetRecord;
 
+// Stays: a closure of `find` does not know that the place it is given lies within, so a count goes along and no part.
 // Whether the identifier of a set stands in one of the first `count`, in whatever form each is written.
 fn stood(image: &[u8], sets: &[SetRecord], count: usize, set: &SetRecord) -> bool
     ensures value { result ≡ list_any (λ g. same_content image.now g set.now) (take count sets.now) }

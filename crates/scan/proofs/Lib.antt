@@ -1,4 +1,5 @@
 pub mod Codes
+pub mod Partwise
 pub mod Records
 pub mod Shown
 pub mod Stepping

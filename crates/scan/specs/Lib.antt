@@ -1,4 +1,5 @@
 pub mod Faults
+pub mod Identifiers
 pub mod Views
 pub mod Tables
 pub mod Inner

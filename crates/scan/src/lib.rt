@@ -2,13 +2,14 @@
 #![tactic(auto)]
 
 mod faults;
-mod parts;
+mod identifiers;
+mod readers;
 mod steps;
 mod tables;
 mod views;
 
 pub use faults::{At, Malformed, ScanFault};
-pub use parts::whole_arcs;
+pub use identifiers::{is_proper, whole_arcs};
 pub use steps::step;
 pub use tables::{Tally, scan_image};
 pub use views::{Identifier, Scanned, SetRecord, SetView};

@@ -9,7 +9,7 @@ ghost use Rattle.scan.specs.Views.{told, Shows};
 ghost use Rattle.scan.specs.Inner.{framed, Frames};
 
 use super::faults::{At, Malformed, ScanFault};
-use super::parts::{read_identifier, read_length, read_offset};
+use super::readers::Reader;
 use super::views::{Scanned, SetRecord, SetView};
 use codes::Compaction;
 use packing::measure;
@@ -22,33 +22,32 @@ fn read_set<'a>(image: &'a [u8], at: usize) -> Result<Scanned<'a>, Malformed>
     ensures cases { Frames at result }
 {
     let precursor = image[at];
-    let offset = read_offset(image, at + 1, precursor)?;
-    let id = read_identifier(image, offset.next, precursor % 16)?;
-    let long = read_length(image, id.next)?;
-    let from = long.next;
-    if image.len() - from < long.value {
-        return Err(Malformed::Past);
-    }
-    let end = from + long.value;
-    let pad = offset.value.saturating_sub(1);
-    if image.len() - end < pad {
-        return Err(Malformed::Past);
-    }
+    let mut reader = Reader {
+        rest: &image[at + 1..],
+    };
+    let extra = reader.offset(precursor)?;
+    let identifier = reader.identifier(precursor % 16)?;
+    let id_end = image.len() - reader.rest.len();
+    let object_len = reader.length()?;
+    let object_at = image.len() - reader.rest.len();
+    let object = reader.run(object_len)?;
+    let pad = extra.saturating_sub(1);
+    reader.run(pad)?;
     let place = SetRecord {
-        number: id.value.number(),
-        id_at: id.value.part_at(id.next),
-        id_len: id.value.len(),
-        object_at: from,
-        object_len: long.value,
+        number: identifier.number(),
+        id_at: identifier.part_at(id_end),
+        id_len: identifier.len(),
+        object_at,
+        object_len,
         at,
-        size: end + pad - at,
+        size: object_at + object_len + pad - at,
         code: Compaction::try_from(precursor / 16 % 8).unwrap(),
     };
     Ok(Scanned::Set(SetView {
         place,
-        extra: offset.value,
-        identifier: id.value,
-        object: &image[from..end],
+        extra,
+        identifier,
+        object,
     }))
 }
 

@@ -29,7 +29,7 @@ pub fn scan_image(image: &[u8], table: &mut [SetRecord]) -> Result<Tally, ScanFa
     if table.len() < image.len() / 3 {
         return Err(ScanFault::Table);
     }
-    // Stays: no plainer by the table's records, since the scan ends by its image, whose tiles are more than its sets.
+    // Stays: tiles of the image end the scan; an iterator over them would be a type for this loop, and two counts would stay.
     let mut at = 0;
     let mut sets = 0;
     let mut used = 0;

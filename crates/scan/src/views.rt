@@ -9,7 +9,7 @@ use codes::Compaction;
 use std::slice;
 
 /// Where a set and its parts stand in the image.
-// Stays: a record of the table holds this number, both addresses and lengths, address, bytes and code, flat.
+// Stays: the project wants a record of the table to hold this number, both addresses and lengths, address, bytes and code.
 #[derive(Clone, Copy, Debug, PartialEq, Eq)]
 pub struct SetRecord {
     /// The identifier where it is written without a lead byte, otherwise 0.

@@ -13,7 +13,7 @@ pub struct Noted {
 }
 
 /// Leave to put, change and drop. It is neither copied nor let go: `ready` takes it, and `end` ends it.
-// Stays: an open state and a pledge are plain records of numbers.
+// Stays: the project wants an open state to be a plain record of the numbers of a shape, which moves and is not copied.
 pub struct OpenState {
     count: usize,
     size: usize,

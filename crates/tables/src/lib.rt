@@ -58,6 +58,7 @@ impl Table {
     }
 
     /// Keeps `from` at the front of block `k`, unless there is no such row.
+    // Stays: an index here and in `lock`, since no proof knows the elements of an array that `get_mut` has lent.
     pub fn put(&mut self, k: usize, from: &[u8]) -> Result<(), NoRow>
         ensures answer { is_ok result ≡ (nat_lt k 64 && nat_le (length from.now) 32) }
         ensures after { self.new ≡ (if is_ok result then with_row self.old k from.now else self.old) }

@@ -4,21 +4,19 @@
 // the lines of its listing and an empty line.
 #![tactic(auto)]
 
-use anyhow::{Context, anyhow, bail};
+use anyhow::{Context, anyhow};
 use listing::listing;
 use std::alloc::Global;
-use std::io;
+use std::io::{BufRead, BufReader};
 use vectors::bytes;
 
-// A dump of 32 blocks of 32 bytes, all of them the one that is named.
+// A dump of 32 blocks of 32 bytes, all of them the first that is named.
 fn filled(heap: Global, lock: u8, content: &str) -> anyhow::Result<Vec<u8>> {
     let content = bytes(heap, content)?;
-    let [b] = content.as_slice() else {
-        bail!("not one byte");
-    };
+    let b = content.first().copied().context("no byte")?;
     let mut out = vec![in heap; 32, 32, 6]?;
     out.resize(3 + 32, lock)?;
-    out.resize(3 + 32 + 32 * 32, *b)?;
+    out.resize(3 + 32 + 32 * 32, b)?;
     Ok(out)
 }
 
@@ -31,18 +29,34 @@ fn dump(heap: Global, case: &str) -> anyhow::Result<Vec<u8>> {
     }
 }
 
-fn run(rt: &HostRuntime) -> anyhow::Result<()> {
+// Whether the case is listed so; what it is listed as is printed where it isn't.
+fn agrees(rt: &HostRuntime, case: &str, wanted: &str) -> anyhow::Result<bool> {
+    let text = listing(rt.alloc(), dump(rt.alloc(), case)?.as_slice())?;
+    let alike = text.as_str() == wanted;
+    if !alike {
+        rt.println(case)?;
+        rt.println(text.as_str())?;
+    }
+    Ok(alike)
+}
+
+fn main(rt: HostRuntime) -> anyhow::Result<()> {
     let heap = rt.alloc();
     let mut alike = 0u64;
-    let input = io::read_to_string(heap, rt.stdin())?;
-    for text in input.split("\n\n").filter(|text| !text.is_empty()) {
-        let (case, wanted) = text.split_once('\n').context("no listing")?;
-        let text = listing(heap, dump(heap, case)?.as_slice())?;
-        if text.strip_suffix('\n') == Some(wanted) {
-            alike = alike.saturating_add(1);
+    let mut case = String::new(heap);
+    let mut wanted = String::new(heap);
+    for line in BufReader::new(heap, rt.stdin())?.lines(heap) {
+        let line = line?;
+        if case.is_empty() {
+            case = line;
+        } else if !line.is_empty() {
+            wanted.push_str(line.as_str())?;
+            wanted.push('\n')?;
         } else {
-            rt.println(case)?;
-            rt.println(text.as_str())?;
+            let right = agrees(&rt, case.as_str(), wanted.as_str())?;
+            alike = alike.saturating_add(u64::from(right));
+            case.clear();
+            wanted.clear();
         }
     }
     println!(rt; "{alike} dumps answered alike")?;
@@ -51,8 +65,4 @@ fn run(rt: &HostRuntime) -> anyhow::Result<()> {
         sets::examples_hold()
     )?;
     Ok(())
-}
-
-fn main(rt: HostRuntime) -> anyhow::Result<()> {
-    run(&rt)
 }

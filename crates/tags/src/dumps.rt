@@ -3,7 +3,7 @@ ghost use Rattle.std.specs.Prelude.{◌≡◌, false, Some, MatchResult, slice_i
 ghost use Rattle.tags.specs.Dumps.{dump_fault, dump_means, Read};
 
 use super::faults::DumpFault;
-use super::parts::Dump;
+pub use super::parts::Dump;
 use super::shapes::Shape;
 
 impl<'a> Dump<'a> {

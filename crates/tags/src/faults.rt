@@ -14,21 +14,30 @@ pub enum Layer {
     Driver,
 }
 
-impl fmt::Display for Layer {
-    ghost output = { λ l. Some (layer_name l) };
-
-    fn fmt<W: fmt::Write>(&self, f: &mut fmt::Formatter<W>) -> fmt::Result {
-        f.write_str(match self {
+impl Layer {
+    pub fn name(self) -> &'static str
+        ensures value { result.now ≡ layer_name self }
+    {
+        match self {
             Layer::Dump => "dump",
             Layer::Call => "call",
             Layer::Scan => "scan",
             Layer::Code => "code",
             Layer::Driver => "driver",
-        })
+        }
     }
 }
 
-/// What every fault tells, whatever layer it comes from.
+impl fmt::Display for Layer {
+    ghost output = { λ l. Some (layer_name l) };
+
+    fn fmt<W: fmt::Write>(&self, f: &mut fmt::Formatter<W>) -> fmt::Result {
+        f.write_str(self.name())
+    }
+}
+
+/// What a fault tells, whatever layer it comes from.
+// Stays: a fault that holds another hands on four calls; told as one record, each number would be worked out with all.
 pub trait Refusal {
     /// Its number, its place, its group and its layer.
     ghost told: { Self → Told };

@@ -19,6 +19,7 @@ pub struct Window<D> {
 }
 
 impl<D: Driver> Window<D> {
+    // Stays: two numbers, which a type for them would only carry to where they are taken apart.
     /// The window that shows `most` blocks of `lower` from block `from` on, or as many as there are.
     #[tactic(auto, using(drivers::proofs::Windowing::window_all))]
     pub fn over(lower: D, from: usize, most: usize) -> Window<D>

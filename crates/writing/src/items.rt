@@ -1,6 +1,5 @@
 // What is to stand as a set.
-ghost use Rattle.std.specs.Prelude.{◌≡◌, ◌≤◌, length, MatchBool, MatchResult};
-ghost use Rattle.sets.specs.Laws.{Proper};
+ghost use Rattle.std.specs.Prelude.{◌≡◌, MatchResult};
 ghost use Rattle.writing.specs.Forms.{wanted, Sizes, Writes, Refused};
 
 use super::WriteFault;
@@ -8,7 +7,7 @@ use super::forms::Form;
 use super::names::spelled;
 use codes::Kind;
 use packing::plan;
-use scan::whole_arcs;
+use scan::is_proper;
 
 /// An identifier and an object of a kind, to stand as a set.
 #[derive(Clone, Copy, Debug, PartialEq, Eq)]
@@ -18,18 +17,12 @@ pub struct Item<'a> {
     pub object: &'a [u8],
 }
 
-fn proper(identifier: &[u8]) -> bool
-    ensures { MatchBool result (Proper identifier.now) (Proper identifier.now → ⊥) }
-{
-    !identifier.is_empty() && identifier.len() <= 32 && whole_arcs(identifier)
-}
-
 impl<'a> Item<'a> {
     // The set that it is with `extra` bytes of offset and pad.
     fn form(self, extra: usize) -> Result<Form<'a>, WriteFault>
         ensures { MatchResult result (λ f. (f.extra ≡ extra) × (f.item ≡ self.entry)) (Refused extra (wanted self.entry)) }
     {
-        if !proper(self.identifier) {
+        if !is_proper(self.identifier) {
             return Err(WriteFault::Identifier);
         }
         let packed = plan(self.kind, self.object).map_err(|_| WriteFault::Size)?;

@@ -3,8 +3,8 @@ ghost use Rattle.std.specs.Prelude.{◌≡◌, ◌+◌, ◌<◌, ◌≤◌, [], 
 ghost use Rattle.codes.specs.Table.{packed_code, first_code};
 ghost use Rattle.codes.specs.Numbers.{kind_number};
 ghost use Rattle.packing.specs.Packing.{Sized};
-ghost use Rattle.sets.specs.Sets.{offset_size, name_size, long};
-ghost use Rattle.sets.specs.Writing.{offset_bytes, name_bytes, length_bytes};
+ghost use Rattle.sets.specs.Sets.{name_size, long};
+ghost use Rattle.sets.specs.Writing.{name_bytes, length_bytes};
 ghost use Rattle.sets.specs.Laws.{Fitting};
 ghost use Rattle.scan.specs.Views.{name_of};
 ghost use Rattle.writing.specs.Pens.{HasRoom, Wrote};
@@ -84,16 +84,6 @@ impl Pen<'_> {
         } else {
             self.byte(0x80 + (n / 0x80) as u8);
             self.byte((n % 0x80) as u8);
-        }
-    }
-
-    pub(crate) fn offset(&mut self, extra: usize)
-        requires few { extra ≤ 256 }
-        requires room { HasRoom self.old (offset_size extra) }
-        ensures { Wrote (offset_bytes extra) self.old self.new }
-    {
-        if extra > 0 {
-            self.byte((extra - 1) as u8);
         }
     }
 }

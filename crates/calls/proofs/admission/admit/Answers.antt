@@ -1,6 +1,6 @@
 use Rattle.std.proofs.Common.{◌≡◌, None, refl}
 use Rattle.std.proofs.lemmas.Result.{err_from_is_err_and}
-use Rattle.calls.specs.Rows.{rooms, start_rows, seen}
+use Rattle.calls.specs.Rows.{start_rows, seen}
 use Rattle.calls.proofs.Firsts.{declined}
 use Rattle.calls.proofs.Starting.{no_room, starts, seen-is}
 use Rattle.calls.proofs.admission.admit.Goals as goal
@@ -8,7 +8,7 @@ use Rattle.calls.proofs.admission.admit.Goals as goal
 pub returns-in_err-check : goal.returns-in_err-check
 returns-in_err-check g c =
     let t = g.D.Driver.tag c.args.d.now in
-    let w = rooms c.args.lent.image c.args.lent.table c.args.lent.scratch in
+    let w = c.args.lent in
     let p = err_from_is_err_and c.from_residual.result c.from_residual.ensures.1 in
     record {
       answer = declined (start_rows t c.args.noted w) (λ s. s ≡ seen t) c.from_residual.result p.0 _ p.1 p.2 (no_room t c.args.noted w c.shape-shape.result c.shape-shape.ensures.value _ c.in_err-check.ensures.answer);
@@ -18,7 +18,7 @@ returns-in_err-check g c =
 pub returns-in_err-check_entry : goal.returns-in_err-check_entry
 returns-in_err-check_entry g c =
     let t = g.D.Driver.tag c.args.d.now in
-    let w = rooms c.args.lent.image c.args.lent.table c.args.lent.scratch in
+    let w = c.args.lent in
     let p = err_from_is_err_and c.from_residual-in_err-check_entry.result c.from_residual-in_err-check_entry.ensures.1 in
     let was = c.in_ok-system.was in
     let told : c.in_ok-system.system ≡ t.system = cc in
@@ -31,7 +31,7 @@ returns-in_err-check_entry g c =
 pub returns : goal.returns
 returns g c =
     let t = g.D.Driver.tag c.args.d.now in
-    let w = rooms c.args.lent.image c.args.lent.table c.args.lent.scratch in
+    let w = c.args.lent in
     let was = c.in_ok-system.was in
     let told : c.in_ok-system.system ≡ t.system = cc in
     let room = c.in_ok-check.ensures.answer.0 in

@@ -1,4 +1,4 @@
-use Rattle.std.proofs.Common.{◌*◌, ◌≤◌, map, length, take, sym, refl, ap, ◌∙◌, rules}
+use Rattle.std.proofs.Common.{◌*◌, ◌≤◌, ◌++◌, map, length, take, drop, replicate, sym, refl, ap, ◌∙◌, rules, arith}
 use Rattle.std.proofs.lemmas.Result.{err_from_is_err_and}
 use Rattle.tags.specs.Tags.{Tag}
 use Rattle.tags.specs.Dumps.{nonzero}
@@ -8,6 +8,7 @@ use Rattle.calls.specs.Working.{work, rooms_of, imaged, zeroed}
 use Rattle.calls.specs.Starts.{begin_rows, Begins}
 use Rattle.calls.proofs.Firsts.{declined, unless-some}
 use Rattle.calls.proofs.Beginning.{begins_no_more, untouched, touched, prepared, memory-is, refuses, grants, leaves}
+use Rattle.calls.proofs.Locking.{front_told}
 use Rattle.calls.proofs.starts.begin.Goals as goal
 
 pub returns-in_err-here : goal.returns-in_err-here
@@ -53,8 +54,9 @@ returns-in_err-tally g c =
     let v = work c.args.image.now c.args.table.now c.args.scratch.now in
     let here = c.in_ok-here.here in
     let p = prepared t (g.D.Driver.shaped d) n v here c.prepare.new.image c.prepare.new.scratch c.in_ok-here.ensures.answer c.prepare.ensures.image c.prepare.ensures.scratch in
-    let locks = c.in_ok-read_locks.ensures.cases ∙ ap (λ (u : Tag). u.locks) c.prepare.ensures.same in
-    let is = memory-is t n v here c.prepare.new.image c.prepare.new.scratch p c.read_locks.new.locks locks in
+    let ls = c.read_locks.new.locks ++ drop here.shape.count (replicate 256 0) in
+    let locks = front_told c.read_locks.new.locks _ here.shape.count t.locks (omega (arith, p.few)) (c.in_ok-read_locks.ensures.cases ∙ ap (λ (u : Tag). u.locks) c.prepare.ensures.same) in
+    let is = memory-is t n v here c.prepare.new.image c.prepare.new.scratch p ls locks in
     let e = err_from_is_err_and c.from_residual-in_err-tally.result c.from_residual-in_err-tally.ensures.1 in
     record {
       answer = declined (begin_rows t n (rooms_of v)) (Begins t) c.from_residual-in_err-tally.result e.0 _ e.1 e.2 (refuses t (g.D.Driver.shaped d) n (rooms_of v) p.none _ is _ c.in_err-tally.ensures.value);
@@ -70,11 +72,12 @@ returns g c =
     let v = work c.args.image.now c.args.table.now c.args.scratch.now in
     let here = c.in_ok-here.here in
     let p = prepared t (g.D.Driver.shaped d) n v here c.prepare.new.image c.prepare.new.scratch c.in_ok-here.ensures.answer c.prepare.ensures.image c.prepare.ensures.scratch in
-    let locks = c.in_ok-read_locks.ensures.cases ∙ ap (λ (u : Tag). u.locks) c.prepare.ensures.same in
-    let is = memory-is t n v here c.prepare.new.image c.prepare.new.scratch p c.read_locks.new.locks locks in
+    let ls = c.read_locks.new.locks ++ drop here.shape.count (replicate 256 0) in
+    let locks = front_told c.read_locks.new.locks _ here.shape.count t.locks (omega (arith, p.few)) (c.in_ok-read_locks.ensures.cases ∙ ap (λ (u : Tag). u.locks) c.prepare.ensures.same) in
+    let is = memory-is t n v here c.prepare.new.image c.prepare.new.scratch p ls locks in
     let q = grants t (g.D.Driver.shaped d) n (rooms_of v) p.none _ is c.in_ok-tally.tally c.in_ok-tally.ensures.value in
     record {
-      answer = (q.0, record { noted = p.told; locks = ap (λ (k : Noted). map nonzero (take k.shape.count c.read_locks.new.locks)) (sym p.told) ∙ locks; tally = q.1 });
+      answer = (q.0, record { noted = p.told; locks = ap (λ (k : Noted). map nonzero (take k.shape.count ls)) (sym p.told) ∙ locks; tally = q.1 });
       after = touched t n v (work c.prepare.new.image c.check.new.table c.prepare.new.scratch) p.none p.read (leaves t (g.D.Driver.shaped d) n (rooms_of v) p.none _ is v.table c.check.new.table refl c.in_ok-tally.ensures.after) p.zeros;
       same = c.read_locks.ensures.same ∙ c.prepare.ensures.same;
     }

@@ -1,4 +1,4 @@
-use Rattle.std.proofs.Common.{map, take, ap, ◌∙◌, arith}
+use Rattle.std.proofs.Common.{map, ap, ◌∙◌, sym, arith}
 use Rattle.std.proofs.lemmas.List.{take_all}
 use Rattle.tags.specs.Dumps.{nonzero}
 use Rattle.calls.proofs.Locking.{lock_more, lock_told, lock_tells, nonzero-bool}
@@ -24,6 +24,8 @@ returns g c =
     let d = c.args.d.now in
     let t = g.D.Driver.tag d in
     record {
-      cases = ap (λ n. map nonzero (take n c.loop-k.locks)) (omega arith) ∙ c.loop-k.invariant.0 ∙ take_all c.loop-k.k t.locks (omega (arith, (g.D.Driver.shaped d).flags));
+      cases = ap (map nonzero) (sym (take_all c.loop-k.k c.loop-k.locks (omega arith)))
+          ∙ c.loop-k.invariant.0
+          ∙ take_all c.loop-k.k t.locks (omega (arith, (g.D.Driver.shaped d).flags));
       same = c.loop-k.invariant.1;
     }

@@ -1,8 +1,8 @@
 use Rattle.std.proofs.Common.{◌≡◌, false, ◌&&◌, eqb, get_or, sym, ◌∙◌, arith}
 use Rattle.std.proofs.lemmas.Bool.{ne_eqb, and_left, and_right}
 use Rattle.sets.proofs.Here.{arcs-next, arcs-stop, arcs-all}
-use Rattle.scan.proofs.parts.whole_arcs.Goals as goal
-use Rattle.scan.proofs.parts.whole_arcs.Goals.{else-begins-via-then-begins+else-b, else-begins-via-else-begins}
+use Rattle.scan.proofs.identifiers.whole_arcs.Goals as goal
+use Rattle.scan.proofs.identifiers.whole_arcs.Goals.{else-begins-via-then-begins+else-b, else-begins-via-else-begins}
 
 pub returns-then-b : goal.returns-then-b
 returns-then-b c = record { value = sym (arcs-stop c.loop-b.begins c.args.content.now c.loop-b.b-index (omega arith) c.if-begins.true c.if-b.true) ∙ c.loop-b.invariant }

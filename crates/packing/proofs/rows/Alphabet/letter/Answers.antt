@@ -1,7 +1,7 @@
 use Rattle.std.proofs.Common.{◌<◌, sym, subst, arith}
 use Rattle.packing.proofs.Alphabets.{letter_by, letter-lt}
 use Rattle.packing.specs.Any.{row}
-use Rattle.packing.proofs.alphabet.Alphabet.letter.Goals as goal
+use Rattle.packing.proofs.rows.Alphabet.letter.Goals as goal
 
 pub overflow_cast-result : goal.overflow_cast-result
 overflow_cast-result c =
