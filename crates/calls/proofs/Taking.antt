@@ -5,7 +5,6 @@ use Rattle.std.specs.Result.{result_ok}
 use Rattle.std.proofs.ByRecursion.{All-get_or}
 use Rattle.std.proofs.lemmas.Bool.{lt-ltb, le-ltb}
 use Rattle.codes.specs.declared.fault.Fault.{Fault}
-use Rattle.codes.specs.Numbers.{code_number}
 use Rattle.codes.specs.Table.{unpacked_code}
 use Rattle.packing.specs.declared.choice.UnpackFault.TheVariants.{Code}
 use Rattle.packing.specs.Packing.{Stored, Lacks}
@@ -37,7 +36,7 @@ same-said (Err f) = refl
 -- a set that a step showed, and the code that unpacks it
 module _ (xs : List ℕ) (at : ℕ) (v : SetView) (stands : tile (holds (set_of v)) ≡ next unpacked (drop at xs)) where
   abbrev n : ℕ
-  n = code_number v.place.code
+  n = v.place.code
 
   pub shown-is : object_shown (next unpacked (drop at xs)) ≡ packing.said (unpacked_code n v.object.now)
   shown-is = ap object_shown (sym stands) ∙ same-said (unpacked_code n v.object.now)

@@ -5,7 +5,6 @@ use Rattle.sets.specs.Sets.{bare}
 use Rattle.sets.specs.Scans.{Found}
 use Rattle.sets.specs.Readings.{lowest, identified}
 use Rattle.scan.specs.declared.views.SetRecord.{SetRecord}
-use Rattle.codes.specs.declared.kind.Compaction.TheVariants.{ApplicationDefined}
 use Rattle.scan.specs.Identifiers.{is_proper}
 use Rattle.scan.specs.Views.{content_in}
 use Rattle.calls.specs.declared.finds.Hit.{Hit}
@@ -33,7 +32,7 @@ hit_in c fs = hit (place_in c fs) (λ i. is_some (place_in c (drop (i + 1) fs)))
 
 -- the same by records, whatever they say of the image xs
 abbrev pub record_in : List SetRecord → ℕ → SetRecord
-record_in rs i = slice_index_or rs i (record { number = 0; id_at = 0; id_len = 0; object_at = 0; object_len = 0; at = 0; size = 0; code = ApplicationDefined })
+record_in rs i = slice_index_or rs i (record { number = 0; id_at = 0; id_len = 0; object_at = 0; object_len = 0; at = 0; size = 0; code = 0 })
 
 abbrev pub place_among : List ℕ → List ℕ → List SetRecord → Option ℕ
 place_among xs c rs = lowest (λ i. bytes_eq (content_in xs (record_in rs i)) c) (length rs)

@@ -1,5 +1,7 @@
 // Reading one object.
-ghost use Rattle.std.specs.Prelude.{◌≡◌, true, [], ◌∷◌, length, drop, None};
+ghost use Rattle.std.specs.Prelude.{◌≡◌, ◌≤◌, true, [], ◌∷◌, length, drop, None};
+ghost use Rattle.codes.specs.Table.{unpacked_code};
+ghost use Rattle.packing.specs.Packing.{Unpacks};
 ghost use Rattle.tags.specs.Tags.{bytes};
 ghost use Rattle.sets.specs.Scans.{next};
 ghost use Rattle.sets.specs.Objects.{unpacked};
@@ -12,10 +14,20 @@ ghost use Rattle.calls.specs.Reads.{shows_set, object_shown, object_named, outpu
 
 use super::finds::{check_identifier, find};
 use super::starts::prepare;
+use codes::Compaction;
 use drivers::Driver;
 use packing::{UnpackFault, unpack};
-use scan::{Scanned, SetRecord, scan_image, step};
+use scan::{Scanned, SetRecord, SetView, scan_image, step};
 use states::CallFault;
+
+// The object of a set that a step shows, at the front of the output.
+fn unpack_set(set: SetView, output: &mut [u8]) -> Result<usize, UnpackFault>
+    requires { set.place.code ≤ 7 }
+    ensures { Unpacks (unpacked_code set.entry.place.code set.entry.object.now) output.old output.new result }
+{
+    let code = Compaction::try_from(set.place.code).unwrap();
+    unpack(code, set.object, output)
+}
 
 // The object of the set at an address, at the front of the output.
 fn unpack_at(image: &[u8], at: usize, output: &mut [u8]) -> Result<usize, CallFault>
@@ -27,7 +39,7 @@ fn unpack_at(image: &[u8], at: usize, output: &mut [u8]) -> Result<usize, CallFa
         unreachable!()
     };
     // Stays: handed on by `map_err`, a closure would not know that the scan found no fault in the code.
-    match unpack(set.place.code, set.object, output) {
+    match unpack_set(set, output) {
         Ok(long) => Ok(long),
         Err(UnpackFault::Short(needed)) => Err(CallFault::Output(needed)),
         Err(UnpackFault::Code(_)) => unreachable!(),

@@ -5,7 +5,7 @@
 // are `refuse-pack CODE OBJECT ROOM size`, `.. code` or `.. short N`, and `refuse-unpack CODE PACKED ROOM short N`.
 #![tactic(auto)]
 
-use anyhow::{anyhow, bail};
+use anyhow::{Context, anyhow, bail};
 use codes::{Compaction, Kind, UnknownNumber};
 use packing::{PackFault, UnpackFault, measure, pack, pack_as, unpack};
 use std::alloc::{AllocError, Global};
@@ -35,9 +35,20 @@ impl Output {
     }
 }
 
-// The kind or the code of a number.
-fn numbered<T: TryFrom<u8, Error = UnknownNumber>>(word: &str) -> anyhow::Result<T> {
-    Ok(T::try_from(word.parse::<u8>()?)?)
+// The kind or the code of a number, or that there is none.
+fn numbered<T: TryFrom<u8, Error = UnknownNumber>>(
+    word: &str,
+    none: &'static str,
+) -> anyhow::Result<T> {
+    T::try_from(word.parse::<u8>()?).ok().context(none)
+}
+
+fn kind_of(word: &str) -> anyhow::Result<Kind> {
+    numbered(word, "no such kind")
+}
+
+fn code_of(word: &str) -> anyhow::Result<Compaction> {
+    numbered(word, "no such code")
 }
 
 // The code is a number: one above 7 is no error, but differs.
@@ -109,42 +120,62 @@ fn refuses_to_unpack(
     Ok(says_short(why, n)? && out.holds(&[]))
 }
 
+// What is said of packed bytes: an object, or a fault's number and group.
+fn unpacks(heap: Global, code: Compaction, packed: &[u8], said: &[&str]) -> anyhow::Result<bool> {
+    match said {
+        ["object", object, ..] => says(heap, code, packed, bytes(heap, object)?.as_slice()),
+        [_, number, group] => fails(heap, code, packed, number.parse()?, group.parse()?),
+        _ => Err(anyhow!("a fault has a number and a group")),
+    }
+}
+
+fn packing_case(heap: Global, words: &[&str]) -> anyhow::Result<bool> {
+    let [kind, object, code, packed] = words else {
+        bail!("a pack case has five words");
+    };
+    packs(
+        heap,
+        kind_of(kind)?,
+        bytes(heap, object)?.as_slice(),
+        code.parse()?,
+        bytes(heap, packed)?.as_slice(),
+    )
+}
+
+fn unpacking_case(heap: Global, words: &[&str]) -> anyhow::Result<bool> {
+    match words {
+        [code, packed, said @ ..] if said.len() >= 2 => unpacks(
+            heap,
+            code_of(code)?,
+            bytes(heap, packed)?.as_slice(),
+            said,
+        ),
+        _ => Err(anyhow!("an unpack case has five words or six")),
+    }
+}
+
+fn refusal_case(heap: Global, words: &[&str], packing: bool) -> anyhow::Result<bool> {
+    match words {
+        [code, given, room, why @ ..] if !why.is_empty() => {
+            let code = code_of(code)?;
+            let given = bytes(heap, given)?;
+            let room = room.parse()?;
+            if packing {
+                refuses_to_pack(heap, code, given.as_slice(), room, why)
+            } else {
+                refuses_to_unpack(heap, code, given.as_slice(), room, why)
+            }
+        }
+        _ => Err(anyhow!("a refusal has five words or six")),
+    }
+}
+
 fn case(heap: Global, words: &[&str]) -> anyhow::Result<bool> {
     match words {
-        ["pack", kind, object, code, packed] => packs(
-            heap,
-            numbered(kind)?,
-            bytes(heap, object)?.as_slice(),
-            code.parse()?,
-            bytes(heap, packed)?.as_slice(),
-        ),
-        ["unpack", code, packed, "object", object, ..] => says(
-            heap,
-            numbered(code)?,
-            bytes(heap, packed)?.as_slice(),
-            bytes(heap, object)?.as_slice(),
-        ),
-        ["unpack", code, packed, _, number, group] => fails(
-            heap,
-            numbered(code)?,
-            bytes(heap, packed)?.as_slice(),
-            number.parse()?,
-            group.parse()?,
-        ),
-        ["refuse-pack", code, object, room, why @ ..] if !why.is_empty() => refuses_to_pack(
-            heap,
-            numbered(code)?,
-            bytes(heap, object)?.as_slice(),
-            room.parse()?,
-            why,
-        ),
-        ["refuse-unpack", code, packed, room, why @ ..] if !why.is_empty() => refuses_to_unpack(
-            heap,
-            numbered(code)?,
-            bytes(heap, packed)?.as_slice(),
-            room.parse()?,
-            why,
-        ),
+        ["pack", rest @ ..] => packing_case(heap, rest),
+        ["unpack", rest @ ..] => unpacking_case(heap, rest),
+        ["refuse-pack", rest @ ..] => refusal_case(heap, rest, true),
+        ["refuse-unpack", rest @ ..] => refusal_case(heap, rest, false),
         _ => Err(anyhow!("no such case")),
     }
 }

@@ -15,6 +15,9 @@ module _ (t : Tag) (k : ℕ) (h : k < t.count) where
   pub locked-told : Ok (shut t k) ≡ locked_answer t k
   locked-told = sym (cond-true _ _ _ (lt-ltb k t.count h))
 
+  pub read_granted : (m : ℕ) → m ≡ t.size → Ok tt ≡ read_answer t k m
+  read_granted m e = sym (cond-true _ _ _ (lt-ltb k t.count h) ∙ cond-true _ _ _ (eq-eqb m t.size e))
+
   pub write_granted : (m : ℕ) → m ≡ t.size → shut t k ≡ false → Ok tt ≡ write_answer t k m
   write_granted m e o = sym (cond-true _ _ _ (lt-ltb k t.count h) ∙ cond-true _ _ _ (eq-eqb m t.size e) ∙ cond-false _ _ _ o)
 

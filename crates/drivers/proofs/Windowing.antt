@@ -6,7 +6,7 @@ use Rattle.std.proofs.lemmas.Bool.{lt-ltb, cond-true}
 use Rattle.tags.specs.Tags.{Tag, Shaped}
 use Rattle.drivers.specs.declared.faults.DriverFault.{DriverFault}
 use Rattle.drivers.specs.declared.faults.DriverFault.TheVariants.{NoBlock, WrongBuffer, Locked}
-use Rattle.drivers.specs.Questions.{shut, read_answer, read_buffer}
+use Rattle.drivers.specs.Questions.{shut, locked_answer, read_answer, read_buffer}
 use Rattle.drivers.specs.Changes.{with_block, with_lock, write_answer, write_tag, lock_answer, lock_tag}
 use Rattle.drivers.specs.Layers.{window_tag, told_at}
 use Rattle.drivers.proofs.Granted.{cond_of}
@@ -50,7 +50,11 @@ module _ (t : Tag) (f n k : ℕ) (h : k < min n (t.count - f)) where
   in_window : {X : Type 0} (xs : List X) (x : X) → take n (drop f (set xs (f + k) x)) ≡ set (take n (drop f xs)) k x
   in_window xs x = ap (take n) (drop-set-add f xs k x) ∙ take-set-lt n (drop f xs) k x (omega arith)
 
-  window_read_answer : (m : ℕ) → told_at k (read_answer t (f + k) m) ≡ read_answer w k m
+  pub window_locked : told_at k (locked_answer t (f + k)) ≡ locked_answer w k
+  window_locked =
+      ap (told_at k) (there (Ok (shut t (f + k))) (Err (NoBlock (f + k)))) ∙ ap Ok (sym same_lock) ∙ sym (here (Ok (shut w k)) (Err (NoBlock k)))
+
+  pub window_read_answer : (m : ℕ) → told_at k (read_answer t (f + k) m) ≡ read_answer w k m
   window_read_answer m =
       ap (told_at k) (there (cond (eqb m t.size) (Ok tt) (Err (WrongBuffer (f + k)))) (Err (NoBlock (f + k))))
       ∙ cond_of (told_at k) (eqb m t.size) (Ok tt) (Err (WrongBuffer (f + k)))
@@ -61,7 +65,7 @@ module _ (t : Tag) (f n k : ℕ) (h : k < min n (t.count - f)) where
       cond ((sym (ok-told k (read_answer t (f + k) (length b))) ∙ ap is_ok (window_read_answer (length b))) i)
       ((sym (get_or-take n (drop f t.blocks) k [] (omega arith) ∙ get_or-drop f t.blocks k [])) i) b
 
-  window_write_answer : (m : ℕ) → told_at k (write_answer t (f + k) m) ≡ write_answer w k m
+  pub window_write_answer : (m : ℕ) → told_at k (write_answer t (f + k) m) ≡ write_answer w k m
   window_write_answer m =
       ap (told_at k) (there (cond (eqb m t.size) (cond (shut t (f + k)) (Err (Locked (f + k))) (Ok tt)) (Err (WrongBuffer (f + k)))) (Err (NoBlock (f + k))))
       ∙ cond_of (told_at k) (eqb m t.size) (cond (shut t (f + k)) (Err (Locked (f + k))) (Ok tt)) (Err (WrongBuffer (f + k)))
@@ -74,7 +78,7 @@ module _ (t : Tag) (f n k : ℕ) (h : k < min n (t.count - f)) where
       ∙ (λ i. cond ((sym (ok-told k (write_answer t (f + k) (length b))) ∙ ap is_ok (window_write_answer (length b))) i)
       (record { count = min n (t.count - f); size = t.size; system = t.system; blocks = in_window t.blocks b i; locks = take n (drop f t.locks) }) w)
 
-  window_lock_answer : told_at k (lock_answer t (f + k)) ≡ lock_answer w k
+  pub window_lock_answer : told_at k (lock_answer t (f + k)) ≡ lock_answer w k
   window_lock_answer = ap (told_at k) (there (Ok tt) (Err (NoBlock (f + k)))) ∙ sym (here (Ok tt) (Err (NoBlock k)))
 
   pub window_lock : window_tag f n (lock_tag t (f + k)) ≡ lock_tag w k

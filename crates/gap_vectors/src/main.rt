@@ -5,12 +5,18 @@
 // was refused for want of room. Bytes are hexadecimal, `-` is none.
 #![tactic(auto)]
 
-use anyhow::{anyhow, bail};
+use anyhow::{Context, anyhow, bail};
 use codes::Kind;
 use layout::{Behind, Item, LayoutFault, lay_out, lay_ready};
 use std::alloc::Global;
 use std::io::{BufRead, BufReader};
 use vectors::bytes;
+
+fn kind_of(word: &str) -> anyhow::Result<Kind> {
+    Kind::try_from(word.parse::<u8>()?)
+        .ok()
+        .context("no such kind")
+}
 
 // The words of an item, as bytes that a layout is lent.
 #[derive(Drop)]
@@ -24,7 +30,7 @@ impl Wanted {
     fn read(heap: Global, [identifier, kind, object]: [&str; 3]) -> anyhow::Result<Self> {
         Ok(Wanted {
             identifier: bytes(heap, identifier)?,
-            kind: Kind::try_from(kind.parse::<u8>()?)?,
+            kind: kind_of(kind)?,
             object: bytes(heap, object)?,
         })
     }
@@ -65,18 +71,30 @@ fn lay(
     }
 }
 
+// The items of a case. What is wrong with their words is told of identifiers first, then of kinds, then of objects.
+fn read_items(heap: Global, words: &[[&str; 3]]) -> anyhow::Result<Vec<Wanted>> {
+    for [identifier, _, _] in words {
+        bytes(heap, identifier)?;
+    }
+    for [_, kind, _] in words {
+        kind_of(kind)?;
+    }
+    let mut wanted = Vec::new(heap);
+    for item in words {
+        wanted.push(Wanted::read(heap, *item)?)?;
+    }
+    Ok(wanted)
+}
+
 // Whether a case is laid as the memory shows, or too small with the gap as before.
 fn agrees(heap: Global, words: &[&str]) -> anyhow::Result<bool> {
     let [_, behind, block, ready, before, after, rest @ ..] = words else {
-        bail!("a case has six words");
+        bail!("a case has six words and three for each item");
     };
     let (thirds, []) = rest.as_chunks::<3>() else {
-        bail!("an item has three words");
+        bail!("a case has six words and three for each item");
     };
-    let mut wanted = Vec::new(heap);
-    for words in thirds {
-        wanted.push(Wanted::read(heap, *words)?)?;
-    }
+    let wanted = read_items(heap, thirds)?;
     let items: Vec<Item> = wanted.iter().map(|w| w.item()).collect(heap)?;
     let mut gap = bytes(heap, before)?;
     let laid = lay(

@@ -24,6 +24,10 @@ abbrev pub verdict : ℕ → List ℕ → Result Tally Refusal
 verdict room xs =
     by_dump (dump_fault xs) (cond (known_format (slice_index xs 2)) (answer room (dump_memory xs)) (Err (record { place = slice_index xs 2; flaw = plain 5 })))
 
-abbrev pub told : Result Passed Refused → Result Tally Refusal
-told (Ok p) = Ok p.tally
+abbrev pub told : Result Tally Refused → Result Tally Refusal
+told (Ok t) = Ok t
 told (Err r) = Err (refusal_of r)
+
+abbrev pub passed : Result Passed Refused → Result Tally Refusal
+passed (Ok p) = Ok p.tally
+passed (Err r) = Err (refusal_of r)

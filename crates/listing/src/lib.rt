@@ -12,5 +12,5 @@ pub use fills::fill;
 pub use hexes::{Hex, IdentifierHex};
 pub use lines::{SetLine, TagLine, UsedLine};
 pub use listings::listing;
-pub use refusals::Refused;
-pub use verdicts::{Passed, examine};
+pub use refusals::{Refused, RefusedLine};
+pub use verdicts::{Passed, examine, pass};

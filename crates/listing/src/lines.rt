@@ -1,6 +1,5 @@
 // One line for the tag, one for each set, one for the bytes used.
 ghost use Rattle.std.specs.Prelude.{◌≡◌, Some};
-ghost use Rattle.codes.specs.Numbers.{code_number};
 ghost use Rattle.sets.specs.Sets.{content};
 ghost use Rattle.scan.specs.Views.{name_of};
 ghost use Rattle.listing.specs.Lines.{state, tag_text, set_text, used_text};
@@ -39,14 +38,14 @@ fn state_name(sealed: bool) -> &'static str
 pub struct SetLine<'i, 's>(pub Entry<'i, 's>);
 
 impl fmt::Display for SetLine<'_, '_> {
-    ghost output = { λ s. Some (set_text s.0.place.at s.0.place.size s.0.sealed (content (name_of s.0.identifier)) (code_number s.0.place.code) s.0.object.now) };
+    ghost output = { λ s. Some (set_text s.0.place.at s.0.place.size s.0.sealed (content (name_of s.0.identifier)) s.0.place.code s.0.object.now) };
 
     fn fmt<W: fmt::Write>(&self, f: &mut fmt::Formatter<W>) -> fmt::Result {
         let at = self.0.place.at;
         let size = self.0.place.size;
         let state = state_name(self.0.sealed);
         let identifier = IdentifierHex(self.0.identifier);
-        let code = u8::from(self.0.place.code);
+        let code = self.0.place.code;
         let object = Hex(self.0.object);
         write!(f, "set {at} {size} {state} {identifier} {code} {object}")
     }

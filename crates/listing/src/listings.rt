@@ -4,7 +4,7 @@ ghost use Rattle.listing.specs.Listings.{Listed};
 ghost use Rattle.listing.specs.Verdicts.{verdict};
 
 use super::lines::{SetLine, TagLine, UsedLine};
-use super::verdicts::examine;
+use super::verdicts::pass;
 use reading::Memory;
 use scan::SetRecord;
 use std::alloc::{AllocError, Global};
@@ -39,7 +39,7 @@ pub fn listing(heap: Global, bytes: &[u8]) -> Result<String, AllocError>
     ensures made { IfOk result (λ t. Listed bytes.now (verdict 341 bytes.now) (string_bytes t)) }
 {
     let mut table = [SetRecord::EMPTY; SETS];
-    let passed = match examine(bytes, &mut table) {
+    let passed = match pass(bytes, &mut table) {
         Ok(passed) => passed,
         Err(refused) => return format!(in heap; "{refused}\n"),
     };

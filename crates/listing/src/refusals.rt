@@ -68,6 +68,27 @@ impl Refusal for Refused {
     }
 }
 
+/// The one line of a refusal, whatever refused.
+#[derive(Clone, Copy, Debug, PartialEq, Eq)]
+pub struct RefusedLine {
+    pub number: u8,
+    pub place: usize,
+    pub group: usize,
+}
+
+impl fmt::Display for RefusedLine {
+    ghost output = { λ r. Some (refused_text r.number r.place r.group) };
+
+    fn fmt<W: fmt::Write>(&self, f: &mut fmt::Formatter<W>) -> fmt::Result {
+        let RefusedLine {
+            number,
+            place,
+            group,
+        } = *self;
+        write!(f, "refused {number} {place} {group}")
+    }
+}
+
 impl fmt::Display for Refused {
     ghost output = { λ r. Some (refused_text (refused_number r) (refused_place r) (refused_group r)) };
 
@@ -75,6 +96,14 @@ impl fmt::Display for Refused {
         let number = self.number();
         let place = self.place();
         let group = self.group();
-        write!(f, "refused {number} {place} {group}")
+        write!(
+            f,
+            "{}",
+            RefusedLine {
+                number,
+                place,
+                group
+            }
+        )
     }
 }

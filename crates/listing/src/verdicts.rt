@@ -1,7 +1,7 @@
 // Whether a dump has a listing.
 ghost use Rattle.std.specs.Prelude.{◌≡◌, length, IfOk};
 ghost use Rattle.tags.specs.Dumps.{Read};
-ghost use Rattle.listing.specs.Verdicts.{told, verdict};
+ghost use Rattle.listing.specs.Verdicts.{told, passed, verdict};
 
 use super::refusals::Refused;
 use reading::Memory;
@@ -16,8 +16,8 @@ pub struct Passed<'a> {
 }
 
 /// The checks of a dump in their order: its size and shape, its system byte, its sets, its locks, its identifiers.
-pub fn examine<'a>(bytes: &'a [u8], table: &mut [SetRecord]) -> Result<Passed<'a>, Refused>
-    ensures value { told result ≡ verdict (length table.old) bytes.now }
+pub fn pass<'a>(bytes: &'a [u8], table: &mut [SetRecord]) -> Result<Passed<'a>, Refused>
+    ensures value { passed result ≡ verdict (length table.old) bytes.now }
     ensures read { IfOk result (λ p. Read bytes.entry.now p.dump) }
 {
     let dump = Dump::read(bytes)?;
@@ -26,4 +26,11 @@ pub fn examine<'a>(bytes: &'a [u8], table: &mut [SetRecord]) -> Result<Passed<'a
     }
     let tally = Memory::from(dump).check(table)?;
     Ok(Passed { dump, tally })
+}
+
+/// The same checks, for whoever asks only how many sets and free bytes there are; nothing stays lent.
+pub fn examine(bytes: &[u8], table: &mut [SetRecord]) -> Result<Tally, Refused>
+    ensures value { told result ≡ verdict (length table.old) bytes.now }
+{
+    pass(bytes, table).map(|passed| passed.tally)
 }

@@ -6,9 +6,7 @@ ghost use Rattle.packing.specs.declared.choice.UnpackFault.TheVariants.{Code};
 ghost use Rattle.packing.specs.Packing.{Packs, PacksFirst, Plans, ComesBack, NoneShorter, Shortest, Measured, Tells, Unpacks};
 
 use super::any::AnyCode;
-use super::code::Code;
-use super::spelled::Spelled;
-use super::texts::{measure_with, pack_with, unpack_with};
+use super::texts::is_sized;
 use codes::{Compaction, Fault, Kind};
 
 /// Why an object is not packed.
@@ -90,13 +88,12 @@ pub fn choose(kind: Kind, object: &[u8]) -> Compaction
 pub fn plan(kind: Kind, object: &[u8]) -> Result<Packed, PackFault>
     ensures { Plans (kind_number kind) object.now result }
 {
+    if !is_sized(object) {
+        return Err(PackFault::Size);
+    }
     let code = choose(kind, object);
-    let any = AnyCode::from(code);
-    let spelled = Spelled::new(&any, object)?;
-    Ok(Packed {
-        code,
-        length: spelled.length(),
-    })
+    let length = AnyCode::from(code).packed_length(object);
+    Ok(Packed { code, length })
 }
 
 /// The object packed by a code at the front of `out`, and how many bytes that takes. It unpacks to the object.
@@ -104,7 +101,7 @@ pub fn pack_as(code: Compaction, object: &[u8], out: &mut [u8]) -> Result<usize,
     ensures value { Packs (code_number code) object.now out.old out.new result }
     ensures back { ComesBack (code_number code) object.now out.new result }
 {
-    pack_with(&AnyCode::from(code), object, out)
+    AnyCode::from(code).pack(object, out)
 }
 
 /// The object packed by the first permitted code of its kind at the front of `out`. No bytes that say it are fewer.
@@ -122,12 +119,12 @@ pub fn measure(code: Compaction, bytes: &[u8]) -> Result<usize, Fault>
     ensures value { Measured (unpacked_code (code_number code) bytes.now) result }
     ensures told { Tells (code_number code) bytes.now result }
 {
-    measure_with(&AnyCode::from(code), bytes)
+    AnyCode::from(code).measure(bytes)
 }
 
 /// The object that packed bytes say at the front of `out`, and its length; `out` is as before where there is none.
 pub fn unpack(code: Compaction, bytes: &[u8], out: &mut [u8]) -> Result<usize, UnpackFault>
     ensures { Unpacks (unpacked_code (code_number code) bytes.now) out.old out.new result }
 {
-    unpack_with(&AnyCode::from(code), bytes, out)
+    AnyCode::from(code).unpack(bytes, out)
 }

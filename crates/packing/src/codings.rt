@@ -1,15 +1,19 @@
 // The code of the table that a number of a set stands for.
-ghost use Rattle.std.specs.Prelude.{◌≡◌};
+ghost use Rattle.std.specs.Prelude.{◌≡◌, true, length};
+ghost use Rattle.codes.specs.Table.{permitted, packed_code, unpacked_code};
+ghost use Rattle.packing.specs.Packing.{Packs, Measured, Unpacks};
 ghost use Rattle.codes.specs.Numbers.{code_number};
-ghost use Rattle.packing.specs.Any.{any_listed, any_wide, any_pad, any_spelled, any_meant, any_sized, any_packs, any_unpacks};
+ghost use Rattle.packing.specs.Any.{any_listed};
 
 use super::alphabet::Letters;
 use super::any::AnyCode;
+use super::choice::{PackFault, UnpackFault};
 use super::code::Code;
 use super::integer::Integer;
 use super::octets::Octets;
 use super::rows::Alphabet;
-use super::widths::Width;
+use super::spelled::Spelled;
+use super::texts::{measure_with, pack_with, unpack_with};
 use codes::{Compaction, Fault, Kind};
 
 impl From<Compaction> for AnyCode {
@@ -29,41 +33,12 @@ impl From<Compaction> for AnyCode {
     }
 }
 
-// Stays: seven calls go to the code that it is; one match for all would hand out a `&dyn Code`, which no function here does.
-impl Code for AnyCode {
-    ghost listed = { any_listed };
-
-    ghost wide = { any_wide };
-
-    ghost pad = { any_pad };
-
-    ghost spelled = { any_spelled };
-
-    ghost meant = { any_meant };
-
-    ghost sized = { any_sized };
-
-    ghost packs = { any_packs };
-
-    ghost unpacks = { any_unpacks };
-
-    fn width(&self) -> Width {
-        match self {
-            AnyCode::Octets(code) => code.width(),
-            AnyCode::Integer(code) => code.width(),
-            AnyCode::Letters(code) => code.width(),
-        }
-    }
-
-    fn padding(&self) -> u8 {
-        match self {
-            AnyCode::Octets(code) => code.padding(),
-            AnyCode::Integer(code) => code.padding(),
-            AnyCode::Letters(code) => code.padding(),
-        }
-    }
-
-    fn suits(&self, object: &[u8]) -> bool {
+// A call goes to the code that it is once, and then works with that alone.
+// Stays: five calls go there; one match for all would hand out a `&dyn Code`, which no function here does.
+impl AnyCode {
+    pub(crate) fn suits(self, object: &[u8]) -> bool
+        ensures { result ≡ permitted (any_listed self) object.now }
+    {
         match self {
             AnyCode::Octets(code) => code.suits(object),
             AnyCode::Integer(code) => code.suits(object),
@@ -71,35 +46,45 @@ impl Code for AnyCode {
         }
     }
 
-    fn count(&self, object: &[u8]) -> usize {
+    // The bytes that an object takes when it is packed.
+    pub(crate) fn packed_length(self, object: &[u8]) -> usize
+        requires { permitted (any_listed self) object.now ≡ true }
+        ensures { result ≡ length (packed_code (any_listed self) object.now) }
+    {
         match self {
-            AnyCode::Octets(code) => code.count(object),
-            AnyCode::Integer(code) => code.count(object),
-            AnyCode::Letters(code) => code.count(object),
+            AnyCode::Octets(code) => Spelled::of(&code, object).length(),
+            AnyCode::Integer(code) => Spelled::of(&code, object).length(),
+            AnyCode::Letters(code) => Spelled::of(&code, object).length(),
         }
     }
 
-    fn group(&self, object: &[u8], i: usize) -> u8 {
+    pub(crate) fn pack(self, object: &[u8], out: &mut [u8]) -> Result<usize, PackFault>
+        ensures { Packs (any_listed self) object.now out.old out.new result }
+    {
         match self {
-            AnyCode::Octets(code) => code.group(object, i),
-            AnyCode::Integer(code) => code.group(object, i),
-            AnyCode::Letters(code) => code.group(object, i),
+            AnyCode::Octets(code) => pack_with(&code, object, out),
+            AnyCode::Integer(code) => pack_with(&code, object, out),
+            AnyCode::Letters(code) => pack_with(&code, object, out),
         }
     }
 
-    fn length(&self, bytes: &[u8], n: usize) -> Result<usize, Fault> {
+    pub(crate) fn measure(self, bytes: &[u8]) -> Result<usize, Fault>
+        ensures { Measured (unpacked_code (any_listed self) bytes.now) result }
+    {
         match self {
-            AnyCode::Octets(code) => code.length(bytes, n),
-            AnyCode::Integer(code) => code.length(bytes, n),
-            AnyCode::Letters(code) => code.length(bytes, n),
+            AnyCode::Octets(code) => measure_with(&code, bytes),
+            AnyCode::Integer(code) => measure_with(&code, bytes),
+            AnyCode::Letters(code) => measure_with(&code, bytes),
         }
     }
 
-    fn byte(&self, bytes: &[u8], n: usize, i: usize) -> u8 {
+    pub(crate) fn unpack(self, bytes: &[u8], out: &mut [u8]) -> Result<usize, UnpackFault>
+        ensures { Unpacks (unpacked_code (any_listed self) bytes.now) out.old out.new result }
+    {
         match self {
-            AnyCode::Octets(code) => code.byte(bytes, n, i),
-            AnyCode::Integer(code) => code.byte(bytes, n, i),
-            AnyCode::Letters(code) => code.byte(bytes, n, i),
+            AnyCode::Octets(code) => unpack_with(&code, bytes, out),
+            AnyCode::Integer(code) => unpack_with(&code, bytes, out),
+            AnyCode::Letters(code) => unpack_with(&code, bytes, out),
         }
     }
 }

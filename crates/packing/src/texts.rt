@@ -1,7 +1,7 @@
 // One text for every code: an object is packed group by group, and unpacked byte by byte.
-ghost use Rattle.std.specs.Prelude.{◌≡◌, ◌+◌, ◌<◌, [], ◌∷◌, ◌++◌, length, slice_index, Ok, MatchResult};
+ghost use Rattle.std.specs.Prelude.{◌≡◌, ◌+◌, ◌<◌, [], ◌∷◌, ◌++◌, true, length, slice_index, Ok, MatchResult, MatchBool};
 ghost use Rattle.codes.specs.Bits.{bytes_for};
-ghost use Rattle.codes.specs.Table.{packed_code, unpacked_code};
+ghost use Rattle.codes.specs.Table.{permitted, packed_code, unpacked_code};
 ghost use Rattle.packing.specs.Packing.{Sized, Declined, said, Measured, Packs, Unpacks};
 
 use super::choice::{PackFault, UnpackFault};
@@ -11,23 +11,38 @@ use super::spelled::Spelled;
 use super::widths::Width;
 use codes::Fault;
 
+// Whether an object has 1 to 2,048 bytes.
+pub(crate) fn is_sized(object: &[u8]) -> bool
+    ensures { MatchBool result (Sized object.now) (Sized object.now → ⊥) }
+{
+    (1..=2048).contains(&object.len())
+}
+
 impl<'a, C: Code> Spelled<'a, C> {
+    // An object that the code is for.
+    pub(crate) fn of(code: &'a C, object: &'a [u8]) -> Self
+        requires { permitted (C.listed code.now) object.now ≡ true }
+        ensures code { result.code.now ≡ code.now }
+        ensures object { result.object.now ≡ object.now }
+    {
+        Spelled {
+            code,
+            object,
+            count: code.count(object),
+        }
+    }
+
     // An object of 1 to 2,048 bytes, if the code is for it.
-    pub(crate) fn new(code: &'a C, object: &'a [u8]) -> Result<Self, PackFault>
+    fn new(code: &'a C, object: &'a [u8]) -> Result<Self, PackFault>
         ensures { MatchResult result (λ s. Sized object.now × (s.code.now ≡ code.now) × (s.object.now ≡ object.now)) (Declined (C.listed code.now) object.now) }
     {
-        if object.is_empty() || object.len() > 2048 {
+        if !is_sized(object) {
             return Err(PackFault::Size);
         }
         if !code.suits(object) {
             return Err(PackFault::NotPermitted);
         }
-        let count = code.count(object);
-        Ok(Spelled {
-            code,
-            object,
-            count,
-        })
+        Ok(Spelled::of(code, object))
     }
 }
 

@@ -3,7 +3,6 @@ use Rattle.std.proofs.Common.{◌≡◌, ℕ, ◌<◌, ◌≤◌, ◌⊎◌, Lis
 use Rattle.std.specs.Result.{result_ok}
 use Rattle.std.proofs.lemmas.List.{take_at}
 use Rattle.codes.specs.declared.fault.Fault.{Fault}
-use Rattle.codes.specs.Numbers.{code_number}
 use Rattle.codes.specs.Table.{unpacked_code}
 use Rattle.packing.specs.declared.choice.UnpackFault.{UnpackFault}
 use Rattle.packing.specs.declared.choice.UnpackFault.TheVariants.{Code, Short}
@@ -57,7 +56,7 @@ was_err (Err e) o h is = (e, refl)
 
 module _ (b : ℕ) (xs : List ℕ) (at : ℕ) (v : SetView) (stands : tile (holds (set_of v)) ≡ next unpacked (drop at xs)) where
   abbrev k : ℕ
-  k = code_number v.place.code
+  k = v.place.code
 
   abbrev bs : List ℕ
   bs = v.object.now

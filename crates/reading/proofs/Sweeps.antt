@@ -6,7 +6,6 @@ use Rattle.std.specs.Option.{MatchOption, IsSomeAnd, option_map}
 use Rattle.std.proofs.Math.Bool.{and_assoc}
 use Rattle.std.proofs.lemmas.List.{get_or-map, get_or_default}
 use Rattle.std.proofs.ByRecursion.{All-get_or}
-use Rattle.codes.specs.declared.kind.Compaction.TheVariants.{ApplicationDefined}
 use Rattle.sets.specs.Sets.{bare, size}
 use Rattle.sets.specs.Scans.{Found, behind}
 use Rattle.sets.specs.Readings.{Memory, every, found, sealed, stray_block}
@@ -67,7 +66,7 @@ pub ends-inside : (xs : List ℕ) (j : ℕ) → j < length (found xs) → behind
 ends-inside xs j h = All-get_or (λ f. behind f ≤ length xs) (found xs) j no_set h (found_inside xs)
 
 abbrev pub no_record : SetRecord
-no_record = record { number = 0; id_at = 0; id_len = 0; object_at = 0; object_len = 0; at = 0; size = 0; code = ApplicationDefined }
+no_record = record { number = 0; id_at = 0; id_len = 0; object_at = 0; object_len = 0; at = 0; size = 0; code = 0 }
 
 -- one turn of the sweep
 module _ (m : Memory) (rs : List SetRecord) (all : rs ≡ records (found m.bytes)) where
@@ -111,10 +110,10 @@ module _ (m : Memory) (rs : List SetRecord) (all : rs ≡ records (found m.bytes
           subst (Swept m fs (j + 1)) (λ i. sym at-is i + sym size_is i) (went h f inside (is_at fs j inside) (sym same-run ∙ e) (λ a low high. none a low (omega (arith, at-is))))
 
     -- behind the last set
-    end-met : (a : ℕ) → length rs ≤ j → FirstLocked m from (length m.bytes) (Some a) → Some (a / m.size) ≡ stray_block m fs
+    pub end-met : (a : ℕ) → length rs ≤ j → FirstLocked m from (length m.bytes) (Some a) → Some (a / m.size) ≡ stray_block m fs
     end-met a done w = met h (length m.bytes) a (all-ahead h (length m.bytes) (omega (arith, count-is fs rs all))) w.0 w.1 (omega arith) w.2 w.3
 
-    end-clear : length rs ≤ j → FirstLocked m from (length m.bytes) None → None ≡ stray_block m fs
+    pub end-clear : length rs ≤ j → FirstLocked m from (length m.bytes) None → None ≡ stray_block m fs
     end-clear done none = cleared h none (omega (arith, count-is fs rs all))
 
     pub end-is : length rs ≤ j → (o : Option ℕ) → FirstLocked m from (length m.bytes) o → option_map (λ a. a / m.size) o ≡ stray_block m fs

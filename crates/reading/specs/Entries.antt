@@ -1,6 +1,5 @@
 -- What the entry of a set shows.
 use Rattle.std.specs.Prelude.{◌≡◌, ℕ, ◌<◌, ◌⊎◌, length, drop, Some, None, Option}
-use Rattle.codes.specs.Numbers.{code_number}
 use Rattle.sets.specs.Sets.{Set, content, holds}
 use Rattle.sets.specs.Parsing.{tile}
 use Rattle.sets.specs.Scans.{next}
@@ -13,7 +12,7 @@ use Rattle.reading.specs.declared.entries.Entry.{Entry}
 pub record Says (m : Memory) (at : ℕ) (e : Entry) (s : Set) : Type 0 where
   pub stands : next unpacked (drop at m.bytes) ≡ tile (holds s)
   pub place : e.place ≡ recorded at s
-  pub code : code_number e.place.code ≡ s.code
+  pub code : e.place.code ≡ s.code
   pub identifier : content (name_of e.identifier) ≡ (entry m (record { at = at; set = s })).identifier
   pub object : e.object.now ≡ (entry m (record { at = at; set = s })).object
   pub sealed : e.sealed ≡ sealed m (record { at = at; set = s })

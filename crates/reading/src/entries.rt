@@ -4,6 +4,7 @@ ghost use Rattle.reading.specs.Checks.{memory_of};
 ghost use Rattle.reading.specs.Entries.{Entered};
 
 use super::memories::Memory;
+use codes::Compaction;
 use packing::unpack;
 use scan::{Identifier, Scanned, SetRecord, step};
 
@@ -26,7 +27,8 @@ impl<'i> Memory<'i, '_> {
         let Scanned::Set(set) = step(self.image, at).ok()? else {
             return None;
         };
-        let long = unpack(set.place.code, set.object, scratch).ok()?;
+        let code = Compaction::try_from(set.place.code).unwrap();
+        let long = unpack(code, set.object, scratch).ok()?;
         Some(Entry {
             place: set.place,
             sealed: blocks.is_sealed(&set.place),

@@ -1,8 +1,6 @@
 -- The codes of sets, and their numbers.
-use Rattle.std.proofs.Common.{◌≡◌, ℕ, zero, suc, ◌-◌, ◌/◌, ◌%◌, ◌≤◌, Bool, true, false, cond, eqb, List, [], ◌∷◌, drop, sym, refl, ap, ◌∙◌, arith}
+use Rattle.std.proofs.Common.{◌≡◌, ℕ, zero, suc, ◌-◌, ◌/◌, ◌%◌, ◌≤◌, Bool, true, false, cond, eqb, List, [], ◌∷◌, drop, sym, refl, ap, arith}
 use Rattle.std.proofs.ByRecursion.{All-weaker}
-use Rattle.codes.specs.declared.kind.Compaction.{Compaction}
-use Rattle.codes.specs.declared.kind.Compaction.TheVariants.{ApplicationDefined, Integer, Numeric, FiveBit, SixBit, SevenBit, OctetString, Utf8String}
 use Rattle.codes.specs.Numbers.{code_number}
 use Rattle.sets.specs.Sets.{Set, filler, holds}
 use Rattle.sets.specs.Parsing.{end, tile, wrong, got, run, offset, identifier, size_of_object, body, told, parse}
@@ -14,30 +12,6 @@ use Rattle.sets.proofs.Fronts.{made, pad_on, object_on, length_on, name_on, told
 use Rattle.sets.proofs.Repeats.{found-next, next-parse}
 use Rattle.scan.specs.Views.{code_of}
 use Rattle.scan.specs.Tables.{CodesTold}
-
-pub code_of-number : (c : Compaction) → code_of (code_number c) ≡ c
-unfolding code_of
-code_of-number ApplicationDefined = refl
-code_of-number Integer = refl
-code_of-number Numeric = refl
-code_of-number FiveBit = refl
-code_of-number SixBit = refl
-code_of-number SevenBit = refl
-code_of-number OctetString = refl
-code_of-number Utf8String = refl
-
-pub is_code : (c : Compaction) (n : ℕ) → code_number c ≡ n → c ≡ code_of n
-is_code c n e = sym (code_of-number c) ∙ ap code_of e
-
-pub code_number-low : (c : Compaction) → code_number c ≤ 7
-code_number-low ApplicationDefined = omega arith
-code_number-low Integer = omega arith
-code_number-low Numeric = omega arith
-code_number-low FiveBit = omega arith
-code_number-low SixBit = omega arith
-code_number-low SevenBit = omega arith
-code_number-low OctetString = omega arith
-code_number-low Utf8String = omega arith
 
 pub code_number-of : (n : ℕ) → n ≤ 7 → code_number (code_of n) ≡ n
 unfolding code_of

@@ -3,19 +3,17 @@ use Rattle.std.proofs.Common.{◌≡◌, ℕ, List, drop, Ok, Err, Result, sym, 
 use Rattle.std.specs.Result.{MatchResult, IsErrAnd}
 use Rattle.std.specs.Int.Digits.{AllBelowBase}
 use Rattle.codes.specs.declared.fault.Fault.{Fault}
-use Rattle.codes.specs.Numbers.{code_number}
 use Rattle.codes.specs.Table.{unpacked_code}
 use Rattle.packing.specs.Packing.{Measured, said}
-use Rattle.sets.specs.Sets.{filler, holds}
-use Rattle.sets.specs.Parsing.{plain, end, tile, wrong, parse}
+use Rattle.sets.specs.Sets.{holds}
+use Rattle.sets.specs.Parsing.{plain, tile, wrong, parse}
 use Rattle.sets.specs.Scans.{examined, next}
 use Rattle.sets.specs.Objects.{flawed, unpacked}
-use Rattle.sets.proofs.Places.{next-is, filler-within}
+use Rattle.sets.proofs.Places.{next-is}
 use Rattle.scan.specs.declared.faults.Malformed.{Malformed}
 use Rattle.scan.specs.declared.faults.ScanFault.TheVariants as faults
 use Rattle.scan.specs.declared.views.SetView.{SetView}
-use Rattle.scan.specs.declared.views.Scanned.{Scanned}
-use Rattle.scan.specs.declared.views.Scanned.TheVariants.{End, Filler, Set}
+use Rattle.scan.specs.declared.views.Scanned.TheVariants.{Set}
 use Rattle.scan.specs.Faults.{malformed_number}
 use Rattle.scan.specs.Views.{set_of, told, Shows}
 use Rattle.scan.specs.Inner.{framed, Frames}
@@ -36,20 +34,14 @@ module _ (xs : List ℕ) (at : ℕ) where
   pub malformed : (w : Malformed) → framed (Err w) ≡ parse (drop at xs) → told (Err (faults.Set (record { at = at; fault = w }))) ≡ next unpacked (drop at xs)
   malformed w e = sym (next-is unpacked (wrong (plain (malformed_number w))) (drop at xs) e)
 
-  -- no set
-  pub plainly : (s : Scanned) → ((v : SetView) → s ≡ Set v → ⊥) → framed (Ok s) ≡ parse (drop at xs) → (told (Ok s) ≡ next unpacked (drop at xs)) × Shows xs at (Ok s)
-  plainly End none e = (sym (next-is unpacked end (drop at xs) e), tt)
-  plainly Filler none e = (sym (next-is unpacked (tile filler) (drop at xs) e), filler-within xs at e)
-  plainly (Set v) none e = absurd (none v refl)
-
   module _ (v : SetView) (e : framed (Ok (Set v)) ≡ parse (drop at xs)) where
-    looked : next unpacked (drop at xs) ≡ examined (set_of v) (unpacked (code_number v.place.code) v.object.now)
+    looked : next unpacked (drop at xs) ≡ examined (set_of v) (unpacked v.place.code v.object.now)
     looked = next-is unpacked (tile (holds (set_of v))) (drop at xs) e
 
-    pub flawed-set : (f : Fault) → unpacked_code (code_number v.place.code) v.object.now ≡ Err f → told (Err (faults.Code (record { at = at; fault = f }))) ≡ next unpacked (drop at xs)
+    pub flawed-set : (f : Fault) → unpacked_code v.place.code v.object.now ≡ Err f → told (Err (faults.Code (record { at = at; fault = f }))) ≡ next unpacked (drop at xs)
     flawed-set f h = sym (looked ∙ ap (λ r. examined (set_of v) (flawed r)) h)
 
-    pub shown-set : (n : ℕ) → Measured (unpacked_code (code_number v.place.code) v.object.now) (Ok n) → Frames at (Ok (Set v)) → AllBelowBase 256 xs → (told (Ok (Set v)) ≡ next unpacked (drop at xs)) × Shows xs at (Ok (Set v))
+    pub shown-set : (n : ℕ) → Measured (unpacked_code v.place.code v.object.now) (Ok n) → Frames at (Ok (Set v)) → AllBelowBase 256 xs → (told (Ok (Set v)) ≡ next unpacked (drop at xs)) × Shows xs at (Ok (Set v))
     shown-set n h place under =
-        let object : List ℕ = said (unpacked_code (code_number v.place.code) v.object.now) in
-        (sym (looked ∙ ap (λ r. examined (set_of v) (flawed r)) h.0), shown xs at v object e place (ap flawed h.0) under)
+        let object : List ℕ = said (unpacked_code v.place.code v.object.now) in
+        (sym (looked ∙ ap (λ r. examined (set_of v) (flawed r)) h.0), shown xs at v object e place.0 (ap flawed h.0) place.1 under)

@@ -1,5 +1,5 @@
 -- What the inner functions of the scan answer.
-use Rattle.std.specs.Prelude.{◌≡◌, ℕ, ◌-◌, List, length, Ok, Err, Result}
+use Rattle.std.specs.Prelude.{◌≡◌, ℕ, ◌-◌, ◌≤◌, List, length, Ok, Err, Result}
 use Rattle.sets.specs.Sets.{Name, bare, byte, led, filler, holds}
 use Rattle.sets.specs.Parsing.{plain, Step, end, tile, wrong, Read, got, bad}
 use Rattle.scan.specs.declared.faults.Malformed.{Malformed}
@@ -29,5 +29,5 @@ framed (Err w) = wrong (plain (malformed_number w))
 abbrev pub Frames : ℕ → Result Scanned Malformed → Type 0
 Frames at (Ok End) = Unit {0}
 Frames at (Ok Filler) = Unit {0}
-Frames at (Ok (Set v)) = v.place ≡ recorded at (set_of v)
+Frames at (Ok (Set v)) = (v.place ≡ recorded at (set_of v)) × (v.place.code ≤ 7)
 Frames at (Err w) = Unit {0}

@@ -2,7 +2,6 @@
 use Rattle.std.specs.Prelude.{◌≡◌, ℕ, ◌+◌, ◌≤◌, cond, List, [], ◌∷◌, ◌++◌, length, take, drop, Ok, Err, Result, ◌==◌, slice_index_or}
 use Rattle.codes.specs.declared.kind.Compaction.{Compaction}
 use Rattle.codes.specs.declared.kind.Compaction.TheVariants.{ApplicationDefined, Integer, Numeric, FiveBit, SixBit, SevenBit, OctetString, Utf8String}
-use Rattle.codes.specs.Numbers.{code_number}
 use Rattle.codes.specs.Table.{code}
 use Rattle.sets.specs.Sets.{Name, bare, byte, led, content, number, part, name_at, object_at, size, filler, holds}
 use Rattle.sets.specs.Sets as sets
@@ -24,7 +23,7 @@ name_of (Byte n) = byte n
 name_of (Led c) = led c.now
 
 abbrev pub set_of : SetView → sets.Set
-set_of v = record { extra = v.extra; name = name_of v.identifier; code = code_number v.place.code; object = v.object.now }
+set_of v = record { extra = v.extra; name = name_of v.identifier; code = v.place.code; object = v.object.now }
 
 -- the code of a number below 8
 unfoldable pub code_of : ℕ → Compaction
@@ -41,7 +40,7 @@ recorded at s = record {
   object_len = length s.object;
   at = at;
   size = size s;
-  code = code_of s.code;
+  code = s.code;
 }
 
 -- the content of the identifier of a set with a record
@@ -61,10 +60,11 @@ pub record Shown (xs : List ℕ) (at : ℕ) (v : SetView) : Type 0 where
   pub place : v.place ≡ recorded at (set_of v)
   pub identifier : part (name_of v.identifier) ≡ take v.place.id_len (drop v.place.id_at xs)
   pub object : v.object.now ≡ take v.place.object_len (drop v.place.object_at xs)
+  pub seven : v.place.code ≤ 7
   pub three : 3 ≤ v.place.size
   pub inside : at + v.place.size ≤ length xs
   pub alone : (ys : List ℕ) → next unpacked (take v.place.size (drop at xs) ++ ys) ≡ tile (holds (set_of v))
-  pub least : (object : List ℕ) → unpacked (code_number v.place.code) v.object.now ≡ Ok object → size (smallest_of (content (name_of v.identifier)) (code (code_number v.place.code)).kind object) ≤ v.place.size
+  pub least : (object : List ℕ) → unpacked v.place.code v.object.now ≡ Ok object → size (smallest_of (content (name_of v.identifier)) (code v.place.code).kind object) ≤ v.place.size
 
 abbrev pub Shows : List ℕ → ℕ → Result Scanned ScanFault → Type 0
 Shows xs at (Ok End) = Unit {0}

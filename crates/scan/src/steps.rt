@@ -1,5 +1,7 @@
 // One step of the scan.
 ghost use Rattle.std.specs.Prelude.{◌≡◌, ◌+◌, ◌%◌, ◌<◌, ◌≤◌, length, drop, slice_index};
+ghost use Rattle.codes.specs.Table.{unpacked_code};
+ghost use Rattle.packing.specs.Packing.{Measured};
 ghost use Rattle.sets.specs.Parsing.{body, parse};
 ghost use Rattle.sets.specs.Parsing as parsing;
 ghost use Rattle.sets.specs.Scans.{next};
@@ -11,7 +13,7 @@ ghost use Rattle.scan.specs.Inner.{framed, Frames};
 use super::faults::{At, Malformed, ScanFault};
 use super::readers::Reader;
 use super::views::{Scanned, SetRecord, SetView};
-use codes::Compaction;
+use codes::{Compaction, Fault};
 use packing::measure;
 
 // A set whose precursor has a nibble.
@@ -41,7 +43,7 @@ fn read_set<'a>(image: &'a [u8], at: usize) -> Result<Scanned<'a>, Malformed>
         object_len,
         at,
         size: object_at + object_len + pad - at,
-        code: Compaction::try_from(precursor / 16 % 8).unwrap(),
+        code: precursor / 16 % 8,
     };
     Ok(Scanned::Set(SetView {
         place,
@@ -68,6 +70,14 @@ fn frame<'a>(image: &'a [u8], at: usize) -> Result<Scanned<'a>, Malformed>
     read_set(image, at)
 }
 
+// How long an object is that a code of this number says.
+fn examine(code: u8, object: &[u8]) -> Result<usize, Fault>
+    requires { code ≤ 7 }
+    ensures { Measured (unpacked_code code object.now) result }
+{
+    measure(Compaction::try_from(code).unwrap(), object)
+}
+
 /// What stands at an address, or the first fault of the set there: 7 to 12 in the order of its bytes, its code last.
 /// At or past the end of the image that is the end.
 pub fn step<'a>(image: &'a [u8], at: usize) -> Result<Scanned<'a>, ScanFault>
@@ -75,9 +85,14 @@ pub fn step<'a>(image: &'a [u8], at: usize) -> Result<Scanned<'a>, ScanFault>
     ensures cases { Shows image.now at result }
     ensures written { SmallestComesBack }
 {
-    let seen = frame(image, at).map_err(|fault| At { at, fault })?;
-    if let Scanned::Set(set) = seen {
-        measure(set.place.code, set.object).map_err(|fault| At { at, fault })?;
+    // Case by case: handed on whole, a filler too would be copied at the size of a set.
+    match frame(image, at) {
+        Ok(Scanned::End) => Ok(Scanned::End),
+        Ok(Scanned::Filler) => Ok(Scanned::Filler),
+        Ok(Scanned::Set(set)) => {
+            examine(set.place.code, set.object).map_err(|fault| At { at, fault })?;
+            Ok(Scanned::Set(set))
+        }
+        Err(fault) => Err(ScanFault::from(At { at, fault })),
     }
-    Ok(seen)
 }

@@ -5,11 +5,10 @@ ghost use Rattle.std.specs.Str.{bytes_eq};
 ghost use Rattle.scan.specs.Views.{name_of, content_in};
 ghost use Rattle.scan.specs.Inner.{begin};
 
-use codes::Compaction;
 use std::slice;
 
 /// Where a set and its parts stand in the image.
-// Stays: the project wants a record of the table to hold this number, both addresses and lengths, address, bytes and code.
+// Stays: flat, and the code a number: whoever lends a table fills its records, and may have any numbers in them.
 #[derive(Clone, Copy, Debug, PartialEq, Eq)]
 pub struct SetRecord {
     /// The identifier where it is written without a lead byte, otherwise 0.
@@ -23,7 +22,7 @@ pub struct SetRecord {
     /// The whole set, with its pad.
     pub at: usize,
     pub size: usize,
-    pub code: Compaction,
+    pub code: u8,
 }
 
 impl SetRecord {
@@ -36,7 +35,7 @@ impl SetRecord {
         object_len: 0,
         at: 0,
         size: 0,
-        code: Compaction::ApplicationDefined,
+        code: 0,
     };
 
     /// The content of the identifier of the set, in whatever form it is written, by the bytes of its image; a part that
@@ -55,7 +54,10 @@ impl SetRecord {
     pub fn is_named(&self, image: &[u8], identifier: &[u8]) -> bool
         ensures value { result ≡ bytes_eq (content_in image.now self.now) identifier.now }
     {
-        *self.content(image) == *identifier
+        match identifier {
+            [n] if self.number != 0 => self.number == *n,
+            _ => *self.content(image) == *identifier,
+        }
     }
 }
 

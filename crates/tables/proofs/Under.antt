@@ -20,7 +20,7 @@ room-parts n b e = let p = and_parts _ _ e in (leb-true n 64 p.0, leb-true b 32 
 length-first : (b : ℕ) (xs : List ℕ) → length (first b xs) ≡ b
 length-first b xs = length-take-le b (xs ++ replicate b 0) (omega (arith, length-append xs (replicate b 0), length-replicate {A = ℕ} b 0))
 
-first-is : (b : ℕ) (xs : List ℕ) → b ≤ length xs → first b xs ≡ take b xs
+pub first-is : (b : ℕ) (xs : List ℕ) → b ≤ length xs → first b xs ≡ take b xs
 first-is b xs h = take-append-le b xs (replicate b 0) h
 
 or-false : (a b : Bool) → b ≡ false → (a || b) ≡ a
@@ -85,7 +85,7 @@ module _ (t : Tag) (c : Table) (s : ℕ) where
     pub under_few : (k < 64) × (t.size ≤ 32)
     under_few = let p = room-parts t.count t.size fit in (omega arith, p.1)
 
-    same_size : b ≡ t.size
+    pub same_size : b ≡ t.size
     same_size = ap (λ f. held f t.size) fit
 
     same_block : block u k ≡ block_under t c k

@@ -1,7 +1,7 @@
 // The table of changed blocks: what was written to each, and which were locked.
 #![tactic(auto)]
 
-ghost use Rattle.std.specs.Prelude.{◌≡◌, ◌&&◌, length, is_ok, is_some, IfSome, if◌then◌else◌, nat_le, nat_lt};
+ghost use Rattle.std.specs.Prelude.{◌≡◌, ◌≤◌, ◌&&◌, ◌++◌, length, drop, is_ok, is_some, IfSome, if◌then◌else◌, nat_le, nat_lt};
 ghost use Rattle.tables.specs.Tables.{has_room, unchanged, is_written, is_locked, row, first, with_row, with_locked, Rowed};
 
 use tags::Shape;
@@ -68,9 +68,7 @@ impl Table {
             return Err(NoRow);
         }
         let row = &mut self.rows[k];
-        let mut bytes = row.bytes.unwrap_or([0; 32]);
-        bytes[..from.len()].copy_from_slice(from);
-        row.bytes = Some(bytes);
+        put_front(row.bytes.get_or_insert([0; 32]), from);
         Ok(())
     }
 
@@ -83,4 +81,12 @@ impl Table {
             self.rows[k].locked = true;
         }
     }
+}
+
+// Copies `from` to the front of `bytes`.
+fn put_front(bytes: &mut [u8; 32], from: &[u8])
+    requires { length from.now ≤ 32 }
+    ensures after { bytes.new ≡ from.now ++ drop (length from.now) bytes.old }
+{
+    bytes[..from.len()].copy_from_slice(from);
 }

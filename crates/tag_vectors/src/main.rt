@@ -21,10 +21,11 @@ fn filled(heap: Global, lock: u8, content: &str) -> anyhow::Result<Vec<u8>> {
 }
 
 fn dump(heap: Global, case: &str) -> anyhow::Result<Vec<u8>> {
-    match case.split_once(' ') {
-        Some(("dump", text)) => Ok(bytes(heap, text)?),
-        Some(("same", text)) => filled(heap, 0, text),
-        Some(("locked", text)) => filled(heap, 1, text),
+    let (word, text) = case.split_once(' ').context("no case")?;
+    match word {
+        "dump" => Ok(bytes(heap, text)?),
+        "same" => filled(heap, 0, text),
+        "locked" => filled(heap, 1, text),
         _ => Err(anyhow!("no such case")),
     }
 }

@@ -7,5 +7,5 @@ use Rattle.packing.proofs.choice.measure.Goals as goal
 
 pub returns : goal.returns
 returns c =
-    let is = subst (λ k. Measured (unpacked_code k c.args.bytes.now) c.measure_with.result) c.from.ensures c.measure_with.ensures in
-    record { value = is; told = told_by (code_number c.args.code) c.args.bytes.now c.measure_with.result is }
+    let is = subst (λ k. Measured (unpacked_code k c.args.bytes.now) c.measure.result) c.from.ensures c.measure.ensures in
+    record { value = is; told = told_by (code_number c.args.code) c.args.bytes.now c.measure.result is }

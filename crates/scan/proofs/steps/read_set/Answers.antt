@@ -1,8 +1,8 @@
-use Rattle.std.proofs.Common.{◌≡◌, ℕ, ◌+◌, ◌-◌, ◌/◌, ◌%◌, List, length, get_or, drop, Err, sym, refl, ap, ◌∙◌, subst, arith, length-drop}
+use Rattle.std.proofs.Common.{◌≡◌, ℕ, ◌+◌, ◌-◌, ◌%◌, List, length, get_or, drop, Err, sym, ap, ◌∙◌, subst, arith, length-drop}
 use Rattle.std.proofs.lemmas.Result.{err_from_is_err_and}
-use Rattle.codes.specs.Numbers.{code_number}
-use Rattle.sets.specs.Sets.{holds, offset_size, name_size, long}
-use Rattle.sets.specs.Parsing.{tile, told}
+use Rattle.sets.specs.Sets.{offset_size, name_size, long}
+use Rattle.sets.specs.Parsing.{told}
+use Rattle.sets.proofs.Fronts.{made}
 use Rattle.scan.specs.Views.{name_of}
 use Rattle.scan.specs.Inner.{framed, Frames}
 use Rattle.sets.proofs.Bodies.{body_on, body-bad, name-next, name-bad, length-bad, to-object}
@@ -153,10 +153,8 @@ returns c =
     let hb : length a ≡ name_size n + length b = name-left a b (first % 16) n c.requires.nibble c.in_ok-identifier.ensures in
     let hf : length b ≡ long k + length rest = length-left b rest k c.in_ok-object_len.ensures in
     let many : length object ≡ k = run-many rest behind k object c.in_ok-object.ensures in
-    let code : code_number c.unwrap.result ≡ first / 16 % 8 = rw c.unwrap.ensures at c.try_from.ensures in
     record {
       value =
-          (λ i. tile (holds (record { extra = e; name = n; code = code i; object = object })))
-          ∙ sym (ap told (to-object first e n k l a b rest begins c.in_ok-identifier.ensures c.in_ok-object_len.ensures ∙ object-read first e n k object rest behind c.in_ok-object.ensures ∙ pad-read first e n pad object _ behind _ c.saturating_sub-pad.ensures c.in_ok-run.ensures));
-      cases = record_is at (record { extra = e; name = n; code = code_number c.unwrap.result; object = object }) (length xs - length a) (length xs - length b) (length xs - length rest) k pad _ _ _ c.unwrap.result (omega arith) (omega arith) (omega arith) many c.saturating_sub-pad.ensures c.number.ensures.value c.part_at.ensures.value c.len.ensures.value refl;
+          sym (ap told (to-object first e n k l a b rest begins c.in_ok-identifier.ensures c.in_ok-object_len.ensures ∙ object-read first e n k object rest behind c.in_ok-object.ensures ∙ pad-read first e n pad object _ behind _ c.saturating_sub-pad.ensures c.in_ok-run.ensures));
+      cases = (record_is at (made first e n object) (length xs - length a) (length xs - length b) (length xs - length rest) k pad _ _ _ (omega arith) (omega arith) (omega arith) many c.saturating_sub-pad.ensures c.number.ensures.value c.part_at.ensures.value c.len.ensures.value, omega arith);
     }
