@@ -3,6 +3,7 @@ use Rattle.std.proofs.Common.{◌≡◌, ℕ, ◌<◌, ◌≤◌, Bool, true, fa
 use Rattle.std.specs.Prelude.{Some, None, find, unwrap_or}
 use mathlib.Core.Path.{transport}
 use Rattle.std.specs.Int.Digits.{AllBelowBase}
+use Rattle.std.proofs.lemmas.Bool.{true≢false}
 use Rattle.std.proofs.lemmas.List.{take_at}
 use Rattle.codes.specs.declared.kind.Kind.{Kind}
 use Rattle.codes.specs.declared.kind.Kind.TheVariants.{Application, Compact, Utf8}
@@ -14,7 +15,8 @@ use Rattle.codes.specs.declared.fault.Fault.{Fault}
 use Rattle.codes.proofs.Faults.{faults_told}
 use Rattle.codes.proofs.Choice.{comes_back, first-permitted, first-shortest, none_shorter}
 use Rattle.packing.specs.declared.choice.PackFault.{PackFault}
-use Rattle.packing.specs.Packing.{Packs, ComesBack, Shortest, Measured, Tells}
+use Rattle.packing.specs.declared.choice.PackFault.TheVariants.{Size, NotPermitted, TooShort}
+use Rattle.packing.specs.Packing.{Declined, Packs, Plans, ComesBack, Shortest, Measured, Tells}
 
 -- kinds 0 and 2 have one code each
 pub first_0 : (x : List ℕ) → 0 ≡ first_code 0 x
@@ -70,3 +72,9 @@ kind-below Utf8 = omega arith
 
 pub permitted_by : (kind : Kind) (x : List ℕ) (k : ℕ) → k ≡ first_code (kind_number kind) x → permitted k x ≡ true
 permitted_by kind x k e = ap (λ k. permitted k x) e ∙ (first-permitted (kind_number kind) x (kind-below kind)).1
+
+-- no plan is made of an object only where its size is at fault
+pub declined_plans : (kind : Kind) (x : List ℕ) (k : ℕ) (f : PackFault) → k ≡ first_code (kind_number kind) x → Declined k x f → Plans (kind_number kind) x (Err f)
+declined_plans kind x k Size e h = h
+declined_plans kind x k NotPermitted e h = true≢false (sym (permitted_by kind x k e) ∙ h.1)
+declined_plans kind x k (TooShort n) e h = h

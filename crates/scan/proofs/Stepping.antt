@@ -5,18 +5,19 @@ use Rattle.std.specs.Int.Digits.{AllBelowBase}
 use Rattle.codes.specs.declared.fault.Fault.{Fault}
 use Rattle.codes.specs.Table.{unpacked_code}
 use Rattle.packing.specs.Packing.{Measured, said}
-use Rattle.sets.specs.Sets.{holds}
-use Rattle.sets.specs.Parsing.{plain, tile, wrong, parse}
+use Rattle.sets.specs.Sets.{filler, holds}
+use Rattle.sets.specs.Parsing.{plain, end, tile, wrong, parse}
 use Rattle.sets.specs.Scans.{examined, next}
 use Rattle.sets.specs.Objects.{flawed, unpacked}
-use Rattle.sets.proofs.Places.{next-is}
+use Rattle.sets.proofs.Places.{next-is, filler-within}
 use Rattle.scan.specs.declared.faults.Malformed.{Malformed}
 use Rattle.scan.specs.declared.faults.ScanFault.TheVariants as faults
 use Rattle.scan.specs.declared.views.SetView.{SetView}
-use Rattle.scan.specs.declared.views.Scanned.TheVariants.{Set}
+use Rattle.scan.specs.declared.views.Scanned.{Scanned}
+use Rattle.scan.specs.declared.views.Scanned.TheVariants.{End, Filler, Set}
 use Rattle.scan.specs.Faults.{malformed_number}
-use Rattle.scan.specs.Views.{set_of, told, Shows}
-use Rattle.scan.specs.Inner.{framed, Frames}
+use Rattle.scan.specs.Views.{set_of, recorded, told, Shows}
+use Rattle.scan.specs.Inner.{framed}
 use Rattle.scan.proofs.Shown.{shown}
 
 -- what a result was before its error was turned
@@ -34,6 +35,12 @@ module _ (xs : List ℕ) (at : ℕ) where
   pub malformed : (w : Malformed) → framed (Err w) ≡ parse (drop at xs) → told (Err (faults.Set (record { at = at; fault = w }))) ≡ next unpacked (drop at xs)
   malformed w e = sym (next-is unpacked (wrong (plain (malformed_number w))) (drop at xs) e)
 
+  -- no set
+  pub plainly : (s : Scanned) → ((v : SetView) → s ≡ Set v → ⊥) → framed (Ok s) ≡ parse (drop at xs) → (told (Ok s) ≡ next unpacked (drop at xs)) × Shows xs at (Ok s)
+  plainly End none e = (sym (next-is unpacked end (drop at xs) e), tt)
+  plainly Filler none e = (sym (next-is unpacked (tile filler) (drop at xs) e), filler-within xs at e)
+  plainly (Set v) none e = absurd (none v refl)
+
   module _ (v : SetView) (e : framed (Ok (Set v)) ≡ parse (drop at xs)) where
     looked : next unpacked (drop at xs) ≡ examined (set_of v) (unpacked v.place.code v.object.now)
     looked = next-is unpacked (tile (holds (set_of v))) (drop at xs) e
@@ -41,7 +48,7 @@ module _ (xs : List ℕ) (at : ℕ) where
     pub flawed-set : (f : Fault) → unpacked_code v.place.code v.object.now ≡ Err f → told (Err (faults.Code (record { at = at; fault = f }))) ≡ next unpacked (drop at xs)
     flawed-set f h = sym (looked ∙ ap (λ r. examined (set_of v) (flawed r)) h)
 
-    pub shown-set : (n : ℕ) → Measured (unpacked_code v.place.code v.object.now) (Ok n) → Frames at (Ok (Set v)) → AllBelowBase 256 xs → (told (Ok (Set v)) ≡ next unpacked (drop at xs)) × Shows xs at (Ok (Set v))
+    pub shown-set : (n : ℕ) → Measured (unpacked_code v.place.code v.object.now) (Ok n) → v.place ≡ recorded at (set_of v) → AllBelowBase 256 xs → (told (Ok (Set v)) ≡ next unpacked (drop at xs)) × Shows xs at (Ok (Set v))
     shown-set n h place under =
         let object : List ℕ = said (unpacked_code v.place.code v.object.now) in
-        (sym (looked ∙ ap (λ r. examined (set_of v) (flawed r)) h.0), shown xs at v object e place.0 (ap flawed h.0) place.1 under)
+        (sym (looked ∙ ap (λ r. examined (set_of v) (flawed r)) h.0), shown xs at v object e place (ap flawed h.0) under)

@@ -1,16 +1,14 @@
 use Rattle.std.proofs.Common.{◌≡◌, ◌<◌, drop, Ok, Err, sym, refl, ap, ◌∙◌, subst, arith, rules}
 use Rattle.std.proofs.ByRecursion.{All-from_get_or}
 use Rattle.std.proofs.lemmas.Result.{err_from_is_err_and}
-use Rattle.sets.specs.Sets.{filler}
-use Rattle.sets.specs.Parsing.{end, tile, parse}
-use Rattle.sets.specs.Objects.{unpacked}
-use Rattle.sets.proofs.Places.{next-is, filler-within}
+use Rattle.sets.specs.Parsing.{parse}
 use Rattle.sets.proofs.Written.{smallest-back}
 use Rattle.scan.specs.declared.faults.ScanFault.TheVariants as faults
-use Rattle.scan.specs.declared.views.Scanned.TheVariants.{Set}
+use Rattle.scan.specs.declared.views.Scanned.{Scanned}
+use Rattle.scan.specs.declared.views.Scanned.TheVariants.{End, Filler, Set}
 use Rattle.scan.specs.Views.{told, Shows}
 use Rattle.scan.specs.Inner.{framed, Frames}
-use Rattle.scan.proofs.Stepping.{unturned-err, unturned-ok, malformed, flawed-set, shown-set}
+use Rattle.scan.proofs.Stepping.{unturned-err, unturned-ok, malformed, plainly, flawed-set, shown-set}
 use Rattle.scan.proofs.steps.step.Goals as goal
 
 pub returns-in-Err : goal.returns-in-Err
@@ -21,20 +19,14 @@ returns-in-Err c = record {
 }
 
 pub returns-in-Ok-End : goal.returns-in-Ok-End
-returns-in-Ok-End c = record {
-  value = sym (next-is unpacked end (drop c.args.at c.args.image.now) (ap (λ s. framed (Ok s)) (sym c.in-Ok-End.field-0-is) ∙ c.in-Ok-End.ensures.value));
-  cases = tt;
-  written = smallest-back;
-}
+returns-in-Ok-End c =
+    let k = plainly c.args.image.now c.args.at End (λ v e. absurd (let z : ◌≡◌ {A = Scanned} End (Set v) = e in cc)) (ap (λ s. framed (Ok s)) (sym c.in-Ok-End.field-0-is) ∙ c.in-Ok-End.ensures.value) in
+    record { value = k.0; cases = k.1; written = smallest-back }
 
 pub returns-in-Ok-Filler : goal.returns-in-Ok-Filler
 returns-in-Ok-Filler c =
-    let e : tile filler ≡ parse (drop c.args.at c.args.image.now) = ap (λ s. framed (Ok s)) (sym c.in-Ok-Filler.field-0-is) ∙ c.in-Ok-Filler.ensures.value in
-    record {
-      value = sym (next-is unpacked (tile filler) (drop c.args.at c.args.image.now) e);
-      cases = filler-within c.args.image.now c.args.at e;
-      written = smallest-back;
-    }
+    let k = plainly c.args.image.now c.args.at Filler (λ v e. absurd (let z : ◌≡◌ {A = Scanned} Filler (Set v) = e in cc)) (ap (λ s. framed (Ok s)) (sym c.in-Ok-Filler.field-0-is) ∙ c.in-Ok-Filler.ensures.value) in
+    record { value = k.0; cases = k.1; written = smallest-back }
 
 pub returns-in_err-map_err-in-Ok-Set : goal.returns-in_err-map_err-in-Ok-Set
 returns-in_err-map_err-in-Ok-Set c =
@@ -60,5 +52,5 @@ returns-in_ok-map_err-in-Ok-Set c =
     let stands : framed (Ok (Set v)) ≡ parse (drop at xs) = ap (λ s. framed (Ok s)) (sym c.in-Ok-Set.field-0-is) ∙ c.in-Ok-Set.ensures.value in
     let frames : Frames at (Ok (Set v)) = subst (λ s. Frames at (Ok s)) c.in-Ok-Set.field-0-is c.in-Ok-Set.ensures.cases in
     let good = unturned-ok c.examine.result c.map_err.result _ _ c.map_err.ensures.cases c.in_ok-map_err-in-Ok-Set.was in
-    let k = shown-set xs at v stands _ (rw good at c.examine.ensures) frames (All-from_get_or (λ d. d < 256) xs 0 (λ i h. omega (arith, c.type_inv.image i))) in
+    let k = shown-set xs at v stands _ (rw good at c.examine.ensures) frames.0 (All-from_get_or (λ d. d < 256) xs 0 (λ i h. omega (arith, c.type_inv.image i))) in
     record { value = k.0; cases = k.1; written = smallest-back }
